@@ -1,0 +1,1 @@
+// The third demand, in specs/Demand.antt. There is no code here.

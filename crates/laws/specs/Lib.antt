@@ -1,0 +1,15 @@
+pub mod Lists
+pub mod Counting
+pub mod Packing
+pub mod Text
+pub mod Good
+pub mod Grouped
+pub mod Ordered
+pub mod Layout
+pub mod Kleene
+pub mod Trees
+pub mod Windows
+pub mod Scan
+pub mod Numbers
+pub mod Places
+pub mod Steps

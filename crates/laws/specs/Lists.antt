@@ -1,0 +1,85 @@
+-- Laws of Bool tests and of lists, for the other laws. Assumes nothing.
+use Prim.Native.Nat.{ℕ, zero, suc, _+_, _-_, _≤_, _<_}
+use mathlib.Core.Path.{_≡_, refl, sym, ap, _∙_}
+use mathlib.Core.Bool.{Bool, true, false, _&&_, cond, false≢true}
+use mathlib.Core.List.{List, [], _∷_, _++_, map, append-assoc, append-nil}
+use native.Mathlib.Omega.{arith}
+use lib.ListN.{length, length-append}
+use lib.Dec.{eqb}
+use borrow.Author.Tests.{eqb-true, eq-eqb}
+use Rattle.machine.specs.Lists.{all, sum, keep, those, bind, same}
+
+pub and-both : (a b : Bool) → a && b ≡ true → (a ≡ true) × (b ≡ true)
+and-both true b h = (refl, h)
+and-both false b h = absurd (false≢true h)
+
+pub and-true : {a b : Bool} → a ≡ true → b ≡ true → a && b ≡ true
+and-true p q = rw (p, q)
+
+pub same-true : (xs ys : List ℕ) → same xs ys ≡ true → xs ≡ ys
+same-true [] [] h = refl
+same-true [] (y ∷ ys) h = absurd (false≢true h)
+same-true (x ∷ xs) [] h = absurd (false≢true h)
+same-true (x ∷ xs) (y ∷ ys) h =
+    let b = and-both (eqb x y) (same xs ys) h in
+    let e = eqb-true x y (b .0) in
+    let f = same-true xs ys (b .1) in
+    rw (e, f)
+
+pub same-refl : (xs : List ℕ) → same xs xs ≡ true
+same-refl [] = refl
+same-refl (x ∷ xs) = and-true (eq-eqb x x refl) (same-refl xs)
+
+module _ {A : Type 0} where
+  abbrev pub All : (A → Type 0) → List A → Type 0
+  All P [] = Unit {0}
+  All P (x ∷ xs) = P x × All P xs
+
+  pub All-of : (p : A → Bool) (xs : List A) → all p xs ≡ true → All (λ x. p x ≡ true) xs
+  All-of p [] h = tt
+  All-of p (x ∷ xs) h = (and-both (p x) (all p xs) h .0, All-of p xs (and-both (p x) (all p xs) h .1))
+
+  pub all-of : (p : A → Bool) (xs : List A) → All (λ x. p x ≡ true) xs → all p xs ≡ true
+  all-of p [] h = refl
+  all-of p (x ∷ xs) h = rw (h .0) (all-of p xs (h .1))
+
+  pub All-map : {P Q : A → Type 0} → ((x : A) → P x → Q x) → (xs : List A) → All P xs → All Q xs
+  All-map f [] h = tt
+  All-map f (x ∷ xs) h = (f x (h .0), All-map f xs (h .1))
+
+  pub All-append : (P : A → Type 0) (xs ys : List A) → All P xs → All P ys → All P (xs ++ ys)
+  All-append P [] ys h g = g
+  All-append P (x ∷ xs) ys h g = (h .0, All-append P xs ys (h .1) g)
+
+  pub All-left : (P : A → Type 0) (xs ys : List A) → All P (xs ++ ys) → All P xs
+  All-left P [] ys h = tt
+  All-left P (x ∷ xs) ys h = (h .0, All-left P xs ys (h .1))
+
+  pub All-right : (P : A → Type 0) (xs ys : List A) → All P (xs ++ ys) → All P ys
+  All-right P [] ys h = h
+  All-right P (x ∷ xs) ys h = All-right P xs ys (h .1)
+
+  pub bind-one : (xs : List A) → bind (λ (x : A). x ∷ []) xs ≡ xs
+  bind-one [] = refl
+  bind-one (x ∷ xs) = rw (bind-one xs)
+
+  pub sum-append : (f : A → ℕ) (xs ys : List A) → sum f (xs ++ ys) ≡ sum f xs + sum f ys
+  sum-append f [] ys = omega arith
+  sum-append f (x ∷ xs) ys = let e = sum-append f xs ys in omega arith
+
+module _ {A B : Type 0} where
+  pub All-bind : (P : B → Type 0) (f : A → List B) (xs : List A) → All (λ x. All P (f x)) xs → All P (bind f xs)
+  All-bind P f [] h = tt
+  All-bind P f (x ∷ xs) h = All-append P (f x) (bind f xs) (h .0) (All-bind P f xs (h .1))
+
+  pub All-over : (P : B → Type 0) (f : A → B) (xs : List A) → All (λ x. P (f x)) xs → All P (map f xs)
+  All-over P f [] h = tt
+  All-over P f (x ∷ xs) h = (h .0, All-over P f xs (h .1))
+
+  pub bind-append : (f : A → List B) (xs ys : List A) → bind f (xs ++ ys) ≡ bind f xs ++ bind f ys
+  bind-append f [] ys = refl
+  bind-append f (x ∷ xs) ys = rw (bind-append f xs ys, append-assoc)
+
+  pub length-bind : (f : A → List B) (xs : List A) → length (bind f xs) ≡ sum (λ x. length (f x)) xs
+  length-bind f [] = refl
+  length-bind f (x ∷ xs) = let e = length-bind f xs in omega (arith, length-append (f x) (bind f xs))

@@ -1,0 +1,72 @@
+-- "A result is 0 with its fields, or one of these": the refusals' numbers, and the numbers of every answer. Assumes nothing.
+use Prim.Native.Nat.{ℕ}
+use mathlib.Core.Bool.{Bool, true, false, cond}
+use mathlib.Core.List.{List, [], _∷_}
+use Rattle.machine.specs.declared.Refusal.{Refusal}
+use Rattle.machine.specs.declared.Refusal.the-variants.{BadLength, BrokenLayout, TreeShape, TreeNode, NoPosition, BadIdentifier, BadValue, NoCapacity, JoinWithItself, ShortOutput, BadFile}
+use Rattle.machine.specs.declared.Name.{Name}
+use Rattle.machine.specs.declared.Name.the-variants.{ChainId, InsertionCode, ConformerName, AlternativeLocation, AtomName}
+use Rattle.machine.specs.declared.Opened as Opened
+use Rattle.machine.specs.declared.Edited as Edited
+use Rattle.machine.specs.declared.Found as Found
+use Rattle.machine.specs.declared.LookedUp as LookedUp
+use Rattle.machine.specs.declared.RecordNumbers.{RecordNumbers}
+
+-- "Refusal numbers by their cause"
+abbrev pub refusalNumber : Refusal → ℕ
+refusalNumber BadLength = 1
+refusalNumber BrokenLayout = 2
+refusalNumber TreeShape = 3
+refusalNumber TreeNode = 4
+refusalNumber NoPosition = 5
+refusalNumber BadIdentifier = 6
+refusalNumber BadValue = 7
+refusalNumber NoCapacity = 8
+refusalNumber JoinWithItself = 9
+refusalNumber ShortOutput = 10
+refusalNumber BadFile = 11
+
+-- "6 bad identifier or flag", for each of the five names
+abbrev pub badName : Name → Refusal
+badName ChainId = BadIdentifier
+badName InsertionCode = BadIdentifier
+badName ConformerName = BadIdentifier
+badName AlternativeLocation = BadIdentifier
+badName AtomName = BadIdentifier
+
+-- "A refusal gives its number, zero in every other field"
+abbrev pub openedNumbers : Opened.Opened → List ℕ
+openedNumbers Opened.the-variants.Done = 0 ∷ []
+openedNumbers (Opened.the-variants.Refused r) = refusalNumber r ∷ []
+
+abbrev pub editedNumbers : Edited.Edited → List ℕ
+editedNumbers (Edited.the-variants.Done found removed) = 0 ∷ found ∷ removed ∷ []
+editedNumbers (Edited.the-variants.Refused r) = refusalNumber r ∷ 0 ∷ 0 ∷ []
+
+abbrev pub foundNumbers : Found.Found → List ℕ
+foundNumbers (Found.the-variants.Hits n) = 0 ∷ n ∷ []
+foundNumbers (Found.the-variants.Refused r) = refusalNumber r ∷ 0 ∷ []
+
+-- "found 1 and five record numbers, or found 0 and zeros"
+abbrev pub lookedUpNumbers : LookedUp.LookedUp → List ℕ
+lookedUpNumbers (LookedUp.the-variants.At h) = 0 ∷ 1 ∷ h .model ∷ h .chain ∷ h .residue ∷ h .conformer ∷ h .atom ∷ []
+lookedUpNumbers LookedUp.the-variants.NotFound = 0 ∷ 0 ∷ 0 ∷ 0 ∷ 0 ∷ 0 ∷ 0 ∷ []
+lookedUpNumbers (LookedUp.the-variants.Refused r) = refusalNumber r ∷ 0 ∷ 0 ∷ 0 ∷ 0 ∷ 0 ∷ 0 ∷ []
+
+-- a value, or the refusal of the first check that fails
+pub data Result (A : Type 0) : Type 0 where
+  ok : A → Result A
+  refused : Refusal → Result A
+
+infixl 10 _>>=_ _>>_
+abbrev pub _>>=_ : {A B : Type 0} → Result A → (A → Result B) → Result B
+ok x >>= f = f x
+refused r >>= f = refused r
+
+abbrev pub _>>_ : {A B : Type 0} → Result A → Result B → Result B
+ok x >> b = b
+refused r >> b = refused r
+
+abbrev pub need : Bool → Refusal → Result (Unit {0})
+need true r = ok tt
+need false r = refused r

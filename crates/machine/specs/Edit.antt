@@ -1,0 +1,312 @@
+-- Document 01, "Edits": the plain machine's sixteen calls, and a store's. Checks stand in the order of their refusals.
+-- Assumes nothing.
+use Prim.Native.Nat.{ℕ, zero, suc, _+_, _-_}
+use mathlib.Core.Bool.{Bool, true, false, not, _&&_}
+use mathlib.Core.List.{List, [], _∷_, _++_, map}
+use mathlib.Core.Option.{Option, none, some}
+use lib.ListN.{length}
+use lib.Dec.{leb, eqb}
+use Rattle.machine.specs.Lists.{isEmpty, those, nth, splice, firstWhere, lastWhere, andThen, same}
+use Rattle.machine.specs.Answer.{Result, ok, refused, _>>=_, _>>_, need, badName, editedNumbers}
+use Rattle.machine.specs.Text.{Optional, chainId, insertionCode, conformerName, alternativeLocation, atomName, optional, goodFlag, matches, matchesOptional}
+use Rattle.machine.specs.Record.{Fields, Atom, goodValues}
+use Rattle.machine.specs.Store.{Branch, Machine, records, stored, capacity, layOut, readStore}
+use Rattle.machine.specs.Kleene.{isTrue}
+use Rattle.machine.specs.Query.{readTree, treeValue, termValue, tables}
+use Rattle.machine.specs.Find.{enter, nowhere}
+use Rattle.machine.specs.declared.Prepared.{Prepared}
+use Rattle.machine.specs.declared.Prepared.the-variants.{Stored, Absent, Bad}
+use Rattle.machine.specs.declared.Name.{Name}
+use Rattle.machine.specs.declared.Name.the-variants.{ChainId, InsertionCode, ConformerName, AlternativeLocation, AtomName}
+use Rattle.machine.specs.declared.Refusal.the-variants.{NoPosition, BadValue, NoCapacity, JoinWithItself}
+use Rattle.machine.specs.declared.Edited as Edited
+
+-- ---- the calls, with their arguments other than the store
+
+pub record NewAtom : Type 0 where
+  pub chain : List ℕ
+  pub residue : ℕ
+  pub code : Optional
+  pub conformer : List ℕ
+  pub location : Optional
+  pub name : List ℕ
+  pub serial : ℕ
+  pub x : ℕ
+  pub y : ℕ
+  pub z : ℕ
+  pub occupancy : ℕ
+  pub «b_factor» : ℕ
+  pub element : ℕ
+  pub charge : ℕ
+  pub hetero : ℕ
+
+-- "The sixteen edit calls". A position goes from the model down; texts and flags follow it
+pub data Call : Type 0 where
+  AddModel : (serial : ℕ) → Call
+  AddAtom : (model : ℕ) → NewAtom → Call
+  RemoveChain : (model chain : ℕ) → Call
+  RemoveResidue : (model chain residue : ℕ) → Call
+  RemoveConformer : (model chain residue conformer : ℕ) → Call
+  RemoveAtom : (model chain residue conformer atom : ℕ) → Call
+  RemoveChainById : (model : ℕ) → (id : List ℕ) → Call
+  RemoveResidueById : (model chain : ℕ) → (serial : ℕ) → (code : Optional) → Call
+  RemoveConformerById : (model chain residue : ℕ) → (name : List ℕ) → (location : Optional) → Call
+  RemoveAtomBySerialNumber : (model chain residue conformer : ℕ) → (serial : ℕ) → Call
+  RemoveAtomsBy : (model : ℕ) → (tree : List ℕ) → Call
+  RemoveEmpty : (model : ℕ) → Call
+  JoinModels : (first second : ℕ) → Call
+  JoinChains : (model chain : ℕ) → (model′ chain′ : ℕ) → Call
+  JoinResidues : (model chain residue : ℕ) → (model′ chain′ residue′ : ℕ) → Call
+  JoinConformers : (model chain residue conformer : ℕ) → (model′ chain′ residue′ conformer′ : ℕ) → Call
+
+-- "Each result carries found", here with the machine afterwards
+pub record Change : Type 0 where
+  pub found : ℕ
+  pub after : Machine
+
+abbrev pub changed : Machine → Change
+changed m = record { found = 1; after = m }
+
+-- ---- positions: "A position is a list of indexes from 0."
+
+-- d levels above level j
+abbrev pub up : ℕ → ℕ → ℕ
+up zero j = j
+up (suc d) j = suc (up d j)
+
+-- the branch of level j at a position, d levels down
+unfoldable pub branchAt : (d j : ℕ) → List ℕ → List (Branch (up d j)) → Option (Branch j)
+branchAt d j [] ts = none
+branchAt zero j (i ∷ is) ts = nth i ts
+branchAt (suc d) j (i ∷ is) ts = andThen (nth i ts) (λ t. branchAt d j is (t .1))
+
+-- that branch gives way to a list of branches
+unfoldable pub replaceAt : (d j : ℕ) → List ℕ → List (Branch j) → List (Branch (up d j)) → List (Branch (up d j))
+replaceAt d j [] new ts = ts
+replaceAt zero j (i ∷ is) new ts = splice i (λ t. new) ts
+replaceAt (suc d) j (i ∷ is) new ts = splice i (λ t. (t .0, replaceAt d j is new (t .1)) ∷ []) ts
+
+-- "5 no such position"
+abbrev pub position : {A : Type 0} → Option A → Result A
+position none = refused NoPosition
+position (some x) = ok x
+
+-- ---- additions
+
+-- "8 records needed exceed capacity", in a store of n words
+abbrev pub fits : ℕ → Machine → Result Change
+fits n m = need (leb (length (records m)) (capacity n)) NoCapacity >> ok (changed m)
+
+-- "Add model: appended, given serial."
+unfoldable pub addModel : ℕ → ℕ → Machine → Result Change
+addModel n serial m = fits n (m ++ ((record { serial = serial }, []) ∷ []))
+
+-- "6 bad identifier or flag"
+abbrev pub accept : Name → Prepared → Result ℕ
+accept n (Stored w) = ok w
+accept n Absent = ok 0
+accept n Bad = refused (badName n)
+
+-- an addition's names as they are stored
+pub record Prepare : Type 0 where
+  pub chain : ℕ
+  pub code : ℕ
+  pub conformer : ℕ
+  pub location : ℕ
+  pub name : ℕ
+
+-- "6 (chain, code, conformer, location, atom name)"
+unfoldable pub prepare : NewAtom → Result Prepare
+prepare a = do
+  chain ← accept ChainId (chainId (a .chain))
+  code ← accept InsertionCode (optional insertionCode (a .code))
+  conformer ← accept ConformerName (conformerName (a .conformer))
+  location ← accept AlternativeLocation (optional alternativeLocation (a .location))
+  name ← accept AtomName (atomName (a .name))
+  ok (record { chain = chain; code = code; conformer = conformer; location = location; name = name })
+
+abbrev pub newAtom : NewAtom → Prepare → Atom
+newAtom a p =
+    record {
+      serial = a .serial;
+      name = p .name;
+      x = a .x;
+      y = a .y;
+      z = a .z;
+      occupancy = a .occupancy;
+      «b_factor» = a .«b_factor»;
+      element = a .element;
+      charge = a .charge;
+      hetero = a .hetero;
+    }
+
+pub data Which : Type 0 where
+  first last : Which
+
+abbrev pub pick : {A : Type 0} → Which → (A → Bool) → List A → Option ℕ
+pick first p xs = firstWhere p xs
+pick last p xs = lastWhere p xs
+
+-- "What is missing is appended."
+abbrev pub putIn : {A : Type 0} → Option ℕ → (A → A) → A → List A → List A
+putIn none f new xs = xs ++ (new ∷ [])
+putIn (some i) f new xs = splice i (λ x. f x ∷ []) xs
+
+-- the first or last branch whose fields p accepts has its children changed by f; where there is none, a new one gets them
+unfoldable pub upsert : (k : ℕ) → Which → (Fields (suc k) → Bool) → Fields (suc k) → (List (Branch k) → List (Branch k)) → List (Branch (suc k)) → List (Branch (suc k))
+upsert k w p new f ts = putIn (pick w (λ t. p (t .0)) ts) (λ t. (t .0, f (t .1))) (new, f []) ts
+
+-- "the FIRST conformer with the raised name and equal alternative location", compared as given; "The atom is appended."
+abbrev pub intoConformers : NewAtom → Prepare → List (Branch 1) → List (Branch 1)
+intoConformers a p ts =
+    upsert 0 first (λ c. eqb (c .name) (p .conformer) && matchesOptional (a .location) (c .location)) (record { name = p .conformer; location = p .location })
+    (λ atoms. atoms ++ (newAtom a p ∷ []))
+    ts
+
+-- "the LAST residue whose serial and code equal the arguments", the code compared as given
+abbrev pub intoResidues : NewAtom → Prepare → List (Branch 2) → List (Branch 2)
+intoResidues a p ts =
+    upsert 1 last (λ r. eqb (r .serial) (a .residue) && matchesOptional (a .code) (r .code)) (record { serial = a .residue; code = p .code })
+    (intoConformers a p)
+    ts
+
+-- "the FIRST chain with the trimmed id"
+abbrev pub intoChains : NewAtom → Prepare → List (Branch 3) → List (Branch 3)
+intoChains a p ts = upsert 2 first (λ c. eqb (c .id) (p .chain)) (record { id = p .chain }) (intoResidues a p) ts
+
+unfoldable pub addAtom : ℕ → ℕ → NewAtom → Machine → Result Change
+addAtom n i a m = do
+  t ← position (branchAt 0 4 (i ∷ []) m)
+  p ← prepare a
+  need (goodValues (newAtom a p)) BadValue
+  fits n (replaceAt 0 4 (i ∷ []) ((t .0, intoChains a p (t .1)) ∷ []) m)
+
+-- ---- removals
+
+-- "Remove by position"
+unfoldable pub removeAt : (d j : ℕ) → List ℕ → List (Branch (up d j)) → Result (List (Branch (up d j)))
+removeAt d j pos m = do
+  position (branchAt d j pos m)
+  ok (replaceAt d j pos [] m)
+
+abbrev pub root : (k : ℕ) → Branch k → Fields k
+root zero a = a
+root (suc k) t = t .0
+
+-- the branch at a position with other children
+abbrev pub withChildren : (d j : ℕ) → List ℕ → Branch (suc j) → List (Branch j) → List (Branch (up d (suc j))) → List (Branch (up d (suc j)))
+withChildren d j pos t ts m = replaceAt d (suc j) pos ((t .0, ts) ∷ []) m
+
+-- "Remove the first by id within its parent": what stands at a position, without the child of index i. "None found: found 0"
+abbrev pub without : (d j : ℕ) → List ℕ → Branch (suc j) → Option ℕ → List (Branch (up d (suc j))) → ℕ × List (Branch (up d (suc j)))
+without d j pos t none m = (0, m)
+without d j pos t (some i) m = (1, withChildren d j pos t (splice i (λ u. []) (t .1)) m)
+
+-- the parent's position, what its flag gives, and the test of a child's fields
+unfoldable pub removeFirst : (d j : ℕ) → List ℕ → Result (Unit {0}) → (Fields j → Bool) → List (Branch (up d (suc j))) → Result (ℕ × List (Branch (up d (suc j))))
+removeFirst d j pos flag p m = do
+  t ← position (branchAt d (suc j) pos m)
+  flag
+  ok (without d j pos t (firstWhere (λ u. p (root j u)) (t .1)) m)
+
+abbrev pub withFound : Result (ℕ × Machine) → Result Change
+withFound r = r >>= λ c. ok (record { found = c .0; after = c .1 })
+
+-- without the atoms at which p is false
+unfoldable pub keepAtoms : (k : ℕ) → (Atom → Bool) → List (Branch k) → List (Branch k)
+keepAtoms zero p ts = those p ts
+keepAtoms (suc k) p ts = map (λ t. (t .0, keepAtoms k p (t .1))) ts
+
+-- "atoms at which a tree, with `add_atom_info` alone, is true: terms of the levels above are undecided"; "Undecided atoms stay."
+unfoldable pub removeAtomsBy : ℕ → List ℕ → Machine → Result Change
+removeAtomsBy i tree m = do
+  t ← position (branchAt 0 4 (i ∷ []) m)
+  readTree tree
+  ok (changed (withChildren 0 3 (i ∷ []) t (keepAtoms 3 (λ a. not (isTrue (treeValue (termValue tables (enter zero a nowhere)) tree))) (t .1)) m))
+
+-- "conformers without atoms, then residues without conformers, then chains without residues"
+unfoldable pub nonEmpty : (k : ℕ) → List (Branch k) → List (Branch k)
+nonEmpty zero ts = ts
+nonEmpty (suc k) ts = those (λ t. not (isEmpty (t .1))) (map (λ t. (t .0, nonEmpty k (t .1))) ts)
+
+unfoldable pub removeEmpty : ℕ → Machine → Result Change
+removeEmpty i m = do
+  t ← position (branchAt 0 4 (i ∷ []) m)
+  ok (changed (withChildren 0 3 (i ∷ []) t (nonEmpty 3 (t .1)) m))
+
+-- ---- joins: "the second's children are put after the first's, and the second's own record goes. Nothing is merged."
+
+-- to put children in moves no position of the joined level, so the second is removed where it stood
+unfoldable pub joinAt : (d j : ℕ) → List ℕ → List ℕ → List (Branch (up d (suc j))) → Result (List (Branch (up d (suc j))))
+joinAt d j a b m = do
+  t ← position (branchAt d (suc j) a m)
+  u ← position (branchAt d (suc j) b m)
+  need (not (same a b)) JoinWithItself
+  ok (replaceAt d (suc j) b [] (withChildren d j a t (t .1 ++ u .1) m))
+
+abbrev pub withMachine : Result Machine → Result Change
+withMachine r = r >>= λ m. ok (changed m)
+
+-- ---- one call
+
+-- the machine, in a store of n words
+unfoldable pub machineStep : ℕ → Machine → Call → Result Change
+machineStep n m (AddModel serial) = addModel n serial m
+machineStep n m (AddAtom i a) = addAtom n i a m
+machineStep n m (RemoveChain i c) = withMachine (removeAt 1 3 (i ∷ c ∷ []) m)
+machineStep n m (RemoveResidue i c r) = withMachine (removeAt 2 2 (i ∷ c ∷ r ∷ []) m)
+machineStep n m (RemoveConformer i c r f) = withMachine (removeAt 3 1 (i ∷ c ∷ r ∷ f ∷ []) m)
+machineStep n m (RemoveAtom i c r f a) = withMachine (removeAt 4 0 (i ∷ c ∷ r ∷ f ∷ a ∷ []) m)
+machineStep n m (RemoveChainById i id) = withFound (removeFirst 0 3 (i ∷ []) (ok tt) (λ c. matches id (c .id)) m)
+machineStep n m (RemoveResidueById i c serial code) =
+    withFound (removeFirst 1 2 (i ∷ c ∷ []) (need (goodFlag code) (badName InsertionCode)) (λ r. eqb (r .serial) serial && matchesOptional code (r .code)) m)
+machineStep n m (RemoveConformerById i c r name location) =
+    withFound (removeFirst 2 1 (i ∷ c ∷ r ∷ []) (need (goodFlag location) (badName AlternativeLocation)) (λ f. matches name (f .name) && matchesOptional location (f .location)) m)
+machineStep n m (RemoveAtomBySerialNumber i c r f serial) = withFound (removeFirst 3 0 (i ∷ c ∷ r ∷ f ∷ []) (ok tt) (λ a. eqb (a .serial) serial) m)
+machineStep n m (RemoveAtomsBy i tree) = removeAtomsBy i tree m
+machineStep n m (RemoveEmpty i) = removeEmpty i m
+machineStep n m (JoinModels i i′) = withMachine (joinAt 0 3 (i ∷ []) (i′ ∷ []) m)
+machineStep n m (JoinChains i c i′ c′) = withMachine (joinAt 1 2 (i ∷ c ∷ []) (i′ ∷ c′ ∷ []) m)
+machineStep n m (JoinResidues i c r i′ c′ r′) = withMachine (joinAt 2 1 (i ∷ c ∷ r ∷ []) (i′ ∷ c′ ∷ r′ ∷ []) m)
+machineStep n m (JoinConformers i c r f i′ c′ r′ f′) = withMachine (joinAt 3 0 (i ∷ c ∷ r ∷ f ∷ []) (i′ ∷ c′ ∷ r′ ∷ f′ ∷ []) m)
+
+-- "removed, the atom records before minus those after; an addition gives removed 0", as natural numbers subtract
+abbrev pub answer : Machine → Result Change → List ℕ
+answer m (ok c) = editedNumbers (Edited.the-variants.Done (c .found) (stored m - stored (c .after)))
+answer m (refused r) = editedNumbers (Edited.the-variants.Refused r)
+
+-- "A refused call leaves it as it was"
+abbrev pub next : Machine → Result Change → Machine
+next m (ok c) = c .after
+next m (refused r) = m
+
+-- the store: what its words hold takes the step, and is laid out again; a refusal leaves the words
+abbrev pub relaid : List ℕ → Machine → Result Change → List ℕ × List ℕ
+relaid w m (ok c) = (answer m (ok c), layOut (length w) (c .after))
+relaid w m (refused r) = (answer m (refused r), w)
+
+abbrev pub stepRead : List ℕ → Call → Result Machine → List ℕ × List ℕ
+stepRead w c (ok m) = relaid w m (machineStep (length w) m c)
+stepRead w c (refused r) = (editedNumbers (Edited.the-variants.Refused r), w)
+
+-- an edit: the answer's numbers, and the store's words afterwards
+unfoldable pub storeStep : List ℕ → Call → List ℕ × List ℕ
+storeStep w c = stepRead w c (readStore w)
+
+-- ---- a list of calls: "Each call gets the store that the last one left"
+
+unfoldable pub machineAfter : ℕ → Machine → List Call → Machine
+machineAfter n m [] = m
+machineAfter n m (c ∷ cs) = machineAfter n (next m (machineStep n m c)) cs
+
+unfoldable pub machineAnswers : ℕ → Machine → List Call → List (List ℕ)
+machineAnswers n m [] = []
+machineAnswers n m (c ∷ cs) = answer m (machineStep n m c) ∷ machineAnswers n (next m (machineStep n m c)) cs
+
+unfoldable pub storeAfter : List ℕ → List Call → List ℕ
+storeAfter w [] = w
+storeAfter w (c ∷ cs) = storeAfter (storeStep w c .1) cs
+
+unfoldable pub storeAnswers : List ℕ → List Call → List (List ℕ)
+storeAnswers w [] = []
+storeAnswers w (c ∷ cs) = storeStep w c .0 ∷ storeAnswers (storeStep w c .1) cs

@@ -1,0 +1,164 @@
+-- Small examples beside document 01's ten cases, each telling a definition from a near miss: one table, one theorem.
+-- Assumes nothing.
+use Prim.Native.Nat.{ℕ}
+use mathlib.Core.Path.{_≡_, refl}
+use mathlib.Core.Bool.{Bool, true, false, cond}
+use mathlib.Core.List.{List, [], _∷_, _++_, map}
+use lib.ListN.{length, replicate}
+use lib.Ieee.{ofBits, sub, lt}
+use Rattle.machine.specs.Lists.{bytes, bind}
+use Rattle.machine.specs.Answer.{Result, ok, refused, refusalNumber}
+use Rattle.machine.specs.Text.{packed, pack, unpacked, withoutZeros, textOf, trimStart, trim, chainId, raised, atomName, alternativeLocation, insertionCode, wordOf, matches, matchesOptional, storedBy, packedText, Optional}
+use Rattle.machine.specs.Record.{Words, words, fieldsOf, goodValues, goodFields, goodRecord, readOut}
+use Rattle.machine.specs.Store.{flat, atomCount, laid, layOut, inOrder, goodLayout, cut, group, readStore, openRun}
+use Rattle.machine.specs.Query.{codes, nodeOf, nodesOf, run, leavesOne, readTree, treeValue, window, dropSign, close, termValue, tables, packedName}
+use Rattle.machine.specs.Find.{enter, atomsIn, atomsOf, hitsIn, hitsOf, findRun}
+use Rattle.machine.specs.Edit.{NewAtom, Call, AddModel, AddAtom, RemoveChain, RemoveAtom, RemoveChainById, RemoveResidueById, RemoveConformerById, RemoveAtomBySerialNumber, RemoveAtomsBy, RemoveEmpty, JoinModels, JoinResidues, branchAt, replaceAt, addModel, prepare, upsert, addAtom, removeAt, removeFirst, keepAtoms, removeAtomsBy, nonEmpty, removeEmpty, joinAt, machineStep, storeStep, storeAfter, storeAnswers}
+use Rattle.machine.specs.Lookup.{numbered, serials, lookupIn, lookupRun}
+use Rattle.machine.specs.Program.{readInput, Input, digits, printed, programRun}
+use Rattle.machine.specs.Cases.{record12, store, six, S, node, element7, found, absent, present, atom, zeros, atomRecord, file, eightBytes, Case}
+use Rattle.machine.specs.declared.Prepared.{Prepared}
+use Rattle.machine.specs.declared.Prepared.the-variants.{Stored, Absent, Bad}
+
+-- what a rule makes of a text: 0 and the word, 1 absent, 2 bad
+abbrev ruled : Prepared → List ℕ
+ruled (Stored w) = 0 ∷ w ∷ []
+ruled Absent = 1 ∷ []
+ruled Bad = 2 ∷ []
+
+abbrev bit : Bool → List ℕ
+bit b = cond b 1 0 ∷ []
+
+-- the refusal of a tree, or of a program's input; 0 for none
+abbrev refusalOf : {A : Type 0} → Result A → List ℕ
+refusalOf (ok x) = 0 ∷ []
+refusalOf (refused r) = refusalNumber r ∷ []
+
+-- the answers to some calls on S
+abbrev onS : List Call → List (List ℕ)
+onS calls = storeAnswers S calls
+
+abbrev lines : List (List ℕ) → List ℕ
+lines ls = bind (λ (l : List ℕ). l) ls
+
+-- ---- stores
+
+-- chain X is empty; two atoms and then a third of serial 5, the third in the next residue, at location B; a second model
+unfoldable pub serialStore : List ℕ
+serialStore =
+    store 169
+    (record12 (1 ∷ 1 ∷ [])
+    ∷ record12 (2 ∷ packedName "X" ∷ [])
+    ∷ record12 (2 ∷ packedName "A" ∷ [])
+    ∷ record12 (3 ∷ 7 ∷ [])
+    ∷ record12 (4 ∷ packedName "ALA" ∷ [])
+    ∷ atomRecord 5
+    ∷ atomRecord 5
+    ∷ record12 (3 ∷ 8 ∷ [])
+    ∷ record12 (4 ∷ packedName "ALA" ∷ packedName "B" ∷ [])
+    ∷ atomRecord 5
+    ∷ record12 (1 ∷ 2 ∷ [])
+    ∷ record12 (2 ∷ packedName "A" ∷ [])
+    ∷ record12 (3 ∷ 7 ∷ [])
+    ∷ record12 (4 ∷ packedName "ALA" ∷ [])
+    ∷ [])
+
+-- two models with a chain A each, and then those chains in one model
+abbrev twoModels : List ℕ
+twoModels = store 61 (record12 (1 ∷ 1 ∷ []) ∷ record12 (2 ∷ packedName "A" ∷ []) ∷ record12 (1 ∷ 2 ∷ []) ∷ record12 (2 ∷ packedName "A" ∷ []) ∷ [])
+
+abbrev twoChains : List ℕ
+twoChains = store 61 (record12 (1 ∷ 1 ∷ []) ∷ record12 (2 ∷ packedName "A" ∷ []) ∷ record12 (2 ∷ packedName "A" ∷ []) ∷ [])
+
+abbrev oneModel : List ℕ
+oneModel = store 73 (record12 (1 ∷ 1 ∷ []) ∷ [])
+
+-- ---- the table
+
+abbrev example : List ℕ → List ℕ → Case
+example given stated = record { number = 0; given = given; stated = stated }
+
+unfoldable pub examples : List Case
+examples =
+    -- identifiers: blanks, the last byte allowed, eight bytes, case
+    example (ruled (chainId (bytes "\t a b \n"))) (0 ∷ packedName "a b" ∷ [])
+    ∷ example (ruled (chainId (14 ∷ []))) (2 ∷ [])
+    ∷ example (ruled (chainId (127 ∷ []))) (2 ∷ [])
+    ∷ example (ruled (chainId (126 ∷ []))) (0 ∷ packedName "~" ∷ [])
+    ∷ example (ruled (chainId (bytes "  "))) (2 ∷ [])
+    ∷ example (ruled (chainId (bytes "ABCDEFGHI"))) (2 ∷ [])
+    ∷ example (ruled (insertionCode (bytes " a "))) (0 ∷ packedName "A" ∷ [])
+    ∷ example (ruled (insertionCode (bytes "\ta"))) (2 ∷ [])
+    ∷ example (ruled (alternativeLocation (bytes " "))) (1 ∷ [])
+    ∷ example (ruled (alternativeLocation (bytes "\ta"))) (1 ∷ [])
+    ∷ example (ruled (alternativeLocation (bytes "ABCDEFGHI"))) (2 ∷ [])
+    ∷ example (ruled (atomName (bytes "\tca "))) (0 ∷ packedName "CA" ∷ [])
+    ∷ example (ruled (atomName [])) (0 ∷ 0 ∷ [])
+    -- texts as given: untrimmed, unraised, no padding, an empty one nothing
+    ∷ example (bit (matches (bytes "A") (packedName "A"))) (1 ∷ [])
+    ∷ example (bit (matches (bytes " A") (packedName "A"))) (0 ∷ [])
+    ∷ example (bit (matches (bytes "a") (packedName "A"))) (0 ∷ [])
+    ∷ example (bit (matches (65 ∷ 0 ∷ []) (packedName "A"))) (0 ∷ [])
+    ∷ example (bit (matchesOptional (present "") 0)) (0 ∷ [])
+    ∷ example (bit (matchesOptional absent 0)) (1 ∷ [])
+    -- the store: the length, the end, the gap, the kinds, words not named
+    ∷ example (openRun (replicate 3 9) .0 ++ openRun (replicate 3 9) .1) (0 ∷ 0 ∷ 0 ∷ 0 ∷ [])
+    ∷ example (refusalOf (readStore [])) (1 ∷ [])
+    ∷ example (refusalOf (readStore (0 ∷ []))) (0 ∷ [])
+    ∷ example (refusalOf (readStore (zeros 12 ++ (12 ∷ [])))) (2 ∷ [])
+    ∷ example (refusalOf (readStore (zeros 5 ++ (12 ∷ [])))) (2 ∷ [])
+    ∷ example (refusalOf (readStore (zeros 5 ++ (6 ∷ [])))) (2 ∷ [])
+    ∷ example (refusalOf (readStore (1 ∷ 0 ∷ []))) (2 ∷ [])
+    ∷ example (refusalOf (readStore (store 25 (record12 (1 ∷ []) ∷ record12 (3 ∷ []) ∷ [])))) (2 ∷ [])
+    ∷ example (refusalOf (readStore (store 25 (record12 (1 ∷ 0 ∷ 1 ∷ []) ∷ [])))) (2 ∷ [])
+    ∷ example (refusalOf (readStore (store 25 (record12 (1 ∷ []) ∷ record12 (1 ∷ []) ∷ [])))) (0 ∷ [])
+    -- trees: length 3, nodes 4, shape 3
+    ∷ example (refusalOf (readTree [])) (3 ∷ [])
+    ∷ example (refusalOf (readTree (28 ∷ 0 ∷ []))) (3 ∷ [])
+    ∷ example (refusalOf (readTree (node 29 0 0))) (4 ∷ [])
+    ∷ example (refusalOf (readTree (node 0 0 0))) (4 ∷ [])
+    ∷ example (refusalOf (readTree (node 28 0 1))) (4 ∷ [])
+    ∷ example (refusalOf (readTree (node 15 119 0))) (4 ∷ [])
+    ∷ example (refusalOf (readTree (node 3 (pack (65 ∷ 0 ∷ 65 ∷ [])) 0))) (4 ∷ [])
+    ∷ example (refusalOf (readTree (node 28 0 0 ++ node 0 0 0))) (4 ∷ [])
+    ∷ example (refusalOf (readTree (node 28 0 0 ++ node 28 0 0))) (3 ∷ [])
+    ∷ example (refusalOf (readTree (node 26 0 0 ++ node 28 0 0))) (3 ∷ [])
+    ∷ example (refusalOf (readTree (node 28 0 0 ++ node 23 0 0 ++ node 28 0 0 ++ node 28 0 0))) (3 ∷ [])
+    -- find: an output too short stays, and one that fits exactly is enough
+    ∷ example (lines (findRun S element7 (replicate 9 8) .0 ∷ findRun S element7 (replicate 9 8) .1 ∷ [])) (10 ∷ 0 ∷ replicate 9 8)
+    ∷ example (findRun S element7 (replicate 10 8) .0) (0 ∷ 2 ∷ [])
+    -- edits: what is removed, found 0, undecided atoms stay
+    ∷ example (lines (onS (RemoveChain 0 0 ∷ RemoveChain 0 0 ∷ []))) (0 ∷ 1 ∷ 2 ∷ 5 ∷ 0 ∷ 0 ∷ [])
+    ∷ example (lines (onS (RemoveChainById 0 (bytes "a") ∷ RemoveChainById 0 (bytes "A") ∷ []))) (0 ∷ 0 ∷ 0 ∷ 0 ∷ 1 ∷ 2 ∷ [])
+    ∷ example (lines (onS (RemoveAtomBySerialNumber 0 0 0 0 0 ∷ []))) (0 ∷ 1 ∷ 1 ∷ [])
+    ∷ example (lines (onS (RemoveResidueById 0 0 7 (record { flag = 2; text = [] }) ∷ RemoveResidueById 0 9 7 (record { flag = 2; text = [] }) ∷ []))) (6 ∷ 0 ∷ 0 ∷ 5 ∷ 0 ∷ 0 ∷ [])
+    ∷ example (lines (onS (RemoveConformerById 0 0 0 (bytes "ALA") (present " ") ∷ RemoveConformerById 0 0 0 (bytes "ALA") absent ∷ []))) (0 ∷ 0 ∷ 0 ∷ 0 ∷ 1 ∷ 2 ∷ [])
+    ∷ example (lines (onS (RemoveAtomsBy 0 element7 ∷ RemoveAtomsBy 0 (node 3 (packedName "A") 0) ∷ RemoveAtomsBy 0 [] ∷ []))) (0 ∷ 1 ∷ 1 ∷ 0 ∷ 1 ∷ 0 ∷ 3 ∷ 0 ∷ 0 ∷ [])
+    ∷ example (storeAfter S (RemoveAtom 0 0 0 0 1 ∷ RemoveAtom 0 0 0 0 0 ∷ RemoveEmpty 0 ∷ [])) oneModel
+    -- codes and locations of an addition are compared as given
+    ∷ example (lines (storeAnswers (zeros 109) (AddModel 1 ∷ AddAtom 0 (atom 1 (present "A")) ∷ AddAtom 0 (atom 2 (present " A")) ∷ AddAtom 0 (atom 3 (present "A ")) ∷ []))) (0 ∷ 1 ∷ 0 ∷ 0 ∷ 1 ∷ 0 ∷ 0 ∷ 1 ∷ 0 ∷ 8 ∷ 0 ∷ 0 ∷ [])
+    -- joins: nothing is merged; 5 comes before 9
+    ∷ example (storeAfter twoModels (JoinModels 0 1 ∷ [])) twoChains
+    ∷ example (lines (onS (JoinResidues 0 0 0 0 0 0 ∷ JoinResidues 0 0 1 0 0 1 ∷ []))) (9 ∷ 0 ∷ 0 ∷ 5 ∷ 0 ∷ 0 ∷ [])
+    -- lookup: the first of equal serials, past an empty chain; no going back; the first model alone
+    ∷ example (lookupRun serialStore 5 absent) (0 ∷ 1 ∷ 0 ∷ 2 ∷ 3 ∷ 4 ∷ 5 ∷ [])
+    ∷ example (lookupRun serialStore 5 (present "B")) (replicate 7 0)
+    ∷ example (lookupRun serialStore 6 absent) (replicate 7 0)
+    ∷ example (lookupRun (zeros 13) 5 absent) (replicate 7 0)
+    ∷ example (lookupRun (zeros 13) 5 (record { flag = 2; text = [] })) (6 ∷ replicate 6 0)
+    -- the program: a start equal to the last index is taken, one above it isn't
+    ∷ example (programRun []) (bytes "refused 11\n")
+    ∷ example (programRun (zeros 9)) (bytes "refused 11\n")
+    ∷ example (programRun (zeros 8)) (bytes "refused 1\n")
+    ∷ example (programRun (file (0 ∷ []) [])) (bytes "refused 3\n")
+    ∷ example (programRun (bind eightBytes (0 ∷ 2 ∷ []))) (bytes "refused 11\n")
+    ∷ []
+
+pub shown : map (λ (c : Case). c .given) examples ≡ map (λ (c : Case). c .stated) examples
+unfolding examples serialStore S packed unpacked withoutZeros textOf trimStart trim chainId raised atomName matches storedBy packedText words fieldsOf goodValues goodFields goodRecord readOut flat atomCount laid layOut inOrder goodLayout cut group readStore openRun codes nodeOf nodesOf run leavesOne readTree treeValue termValue tables enter atomsIn atomsOf hitsIn hitsOf findRun branchAt replaceAt addModel prepare upsert addAtom removeAt removeFirst keepAtoms removeAtomsBy nonEmpty removeEmpty joinAt machineStep storeStep storeAfter storeAnswers numbered serials lookupIn lookupRun readInput digits printed programRun ofBits sub lt
+shown = refl
+
+-- "over 65,536 bytes": the next multiple of 8 is refused
+pub over-long : (bs : List ℕ) → length bs ≡ 65544 → programRun bs ≡ bytes "refused 11\n"
+unfolding programRun readInput printed digits
+over-long bs e = rw e

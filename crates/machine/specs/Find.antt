@@ -1,0 +1,83 @@
+-- Document 01, "Trees and find": the stored atoms with their places, and find. Nothing here knows of pruning. Assumes nothing.
+use Prim.Native.Nat.{ℕ, zero, suc, _+_, _*_}
+use mathlib.Core.Bool.{Bool, true, false, cond}
+use mathlib.Core.List.{List, [], _∷_, _++_, map}
+use mathlib.Core.Option.{Option, none, some}
+use lib.ListN.{length, drop}
+use lib.Dec.{leb}
+use Rattle.machine.specs.Lists.{those, bind, along}
+use Rattle.machine.specs.Answer.{Result, ok, refused, _>>=_, _>>_, foundNumbers}
+use Rattle.machine.specs.Record.{Fields}
+use Rattle.machine.specs.Store.{Branch, Machine, flat, readStore}
+use Rattle.machine.specs.Kleene.{isHit}
+use Rattle.machine.specs.Query.{Place, Names, readTree, treeValue, termValue, tables}
+use Rattle.machine.specs.declared.Tri.{Tri}
+use Rattle.machine.specs.declared.Found as Found
+use Rattle.machine.specs.declared.Refusal.the-variants.{ShortOutput}
+
+-- the record numbers from the model down, and what those records say
+pub record Site : Type 0 where
+  pub numbers : List ℕ
+  pub place : Place
+
+-- a place with the level k known too
+unfoldable pub enter : (k : ℕ) → Fields k → Place → Place
+enter zero a e = record { model = e .model; chain = e .chain; residue = e .residue; conformer = e .conformer; atom = some a }
+enter (suc zero) c e = record { model = e .model; chain = e .chain; residue = e .residue; conformer = some c; atom = e .atom }
+enter (suc (suc zero)) r e = record { model = e .model; chain = e .chain; residue = some r; conformer = e .conformer; atom = e .atom }
+enter (suc (suc (suc zero))) c e = record { model = e .model; chain = some c; residue = e .residue; conformer = e .conformer; atom = e .atom }
+enter (suc (suc (suc (suc zero)))) m e = record { model = some m; chain = e .chain; residue = e .residue; conformer = e .conformer; atom = e .atom }
+enter (suc (suc (suc (suc (suc k))))) u e = e
+
+-- the site of record n, right below another
+abbrev pub below : (k : ℕ) → ℕ → Fields k → Site → Site
+below k n f s = record { numbers = s .numbers ++ (n ∷ []); place = enter k f (s .place) }
+
+abbrev pub nowhere : Place
+nowhere = record { model = none; chain = none; residue = none; conformer = none; atom = none }
+
+-- above the models
+abbrev pub top : Site
+top = record { numbers = []; place = nowhere }
+
+-- how many records a branch has
+abbrev pub size : (k : ℕ) → Branch k → ℕ
+size k t = length (flat k t)
+
+-- the atoms of a branch whose own record has number n, in hierarchy order
+unfoldable pub atomsIn : (k : ℕ) → Site → ℕ → Branch k → List Site
+atomsIn zero s n a = below zero n a s ∷ []
+atomsIn (suc k) s n t = along (size k) (atomsIn k (below (suc k) n (t .0) s)) (suc n) (t .1)
+
+-- "Stored atoms are those of the machine."
+unfoldable pub atomsOf : Machine → List Site
+atomsOf m = along (size 4) (atomsIn 4 top) 0 m
+
+-- "A tree's value at an atom comes from Kleene's tables, with the terms of all five levels at their values there."
+abbrev pub valueAt : Names → List ℕ → Site → Tri
+valueAt names t s = treeValue (termValue names (s .place)) t
+
+-- "A hit is five words: the record numbers of model, chain, residue, conformer, atom."
+unfoldable pub hitsIn : Names → List ℕ → Machine → List (List ℕ)
+hitsIn names t m = map (λ s. s .numbers) (those (λ s. isHit (valueAt names t s)) (atomsOf m))
+
+unfoldable pub hitsOf : List ℕ → List ℕ → Result (List (List ℕ))
+hitsOf w t = do
+  m ← readStore w
+  readTree t
+  ok (hitsIn tables t m)
+
+abbrev pub hitWords : List (List ℕ) → List ℕ
+hitWords hs = bind (λ (h : List ℕ). h) hs
+
+-- "10 output shorter than 5 words per hit", "Output words past the hits stay."
+abbrev pub written : List ℕ → Result (List (List ℕ)) → List ℕ × List ℕ
+written out (refused r) = (foundNumbers (Found.the-variants.Refused r), out)
+written out (ok hs) =
+    cond (leb (5 * length hs) (length out))
+    (foundNumbers (Found.the-variants.Hits (length hs)), hitWords hs ++ drop (5 * length hs) out)
+    (foundNumbers (Found.the-variants.Refused ShortOutput), out)
+
+-- find: the answer's numbers, and the output's words afterwards
+unfoldable pub findRun : List ℕ → List ℕ → List ℕ → List ℕ × List ℕ
+findRun w t out = written out (hitsOf w t)

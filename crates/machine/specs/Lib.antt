@@ -1,0 +1,14 @@
+pub mod Lists
+pub mod Answer
+pub mod Text
+pub mod Record
+pub mod Store
+pub mod Kleene
+pub mod Query
+pub mod Find
+pub mod Edit
+pub mod Lookup
+pub mod Program
+pub mod Demand
+pub mod Cases
+pub mod Examples

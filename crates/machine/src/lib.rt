@@ -1,0 +1,125 @@
+// The types that the definitions of specs/ go by. Names are pdbtbx's where it has one.
+
+// Kleene's three values.
+pub enum Tri {
+    False,
+    True,
+    Undecided,
+}
+
+// What a query may ask of an atom and of what stands above it, in pdbtbx's order: codes 1 to 22. Texts are packed.
+pub enum Term {
+    ModelSerialNumber(u64),
+    ModelSerialNumberRange(u64, u64),
+    ChainId(u64),
+    ChainIdRange(u64, u64),
+    ResidueSerialNumber(i64),
+    ResidueSerialNumberRange(i64, i64),
+    ResidueInsertionCode(u64),
+    ResidueId(i64, u64),
+    ConformerName(u64),
+    ConformerAlternativeLocation(u64),
+    ConformerId(u64, u64),
+    AtomSerialNumber(u64),
+    AtomSerialNumberRange(u64, u64),
+    AtomName(u64),
+    Element(u64),
+    BFactor(f64),
+    BFactorRange(f64, f64),
+    Occupancy(f64),
+    OccupancyRange(f64, f64),
+    Backbone,
+    SideChain,
+    Hetero,
+}
+
+pub enum Ops {
+    And,
+    Or,
+    Xor,
+}
+
+// A tree's node, in postfix order: pdbtbx's `Search` without its boxes.
+pub enum Node {
+    Single(Term),
+    Binary(Ops),
+    Not,
+    Known(bool),
+}
+
+// An atom read out of its record.
+pub struct AtomRec {
+    pub serial: u64,
+    pub name: u64,
+    pub x: f64,
+    pub y: f64,
+    pub z: f64,
+    pub occupancy: f64,
+    pub b_factor: f64,
+    pub element: u64,
+    pub charge: i64,
+    pub hetero: bool,
+}
+
+// An identifier made ready for the store.
+pub enum Prepared {
+    Stored(u64),
+    Absent,
+    Bad,
+}
+
+// The names that an edit or a lookup may be given.
+pub enum Name {
+    ChainId,
+    InsertionCode,
+    ConformerName,
+    AlternativeLocation,
+    AtomName,
+}
+
+// Why a call was refused, in the order of its numbers from 1.
+pub enum Refusal {
+    BadLength,
+    BrokenLayout,
+    TreeShape,
+    TreeNode,
+    NoPosition,
+    BadIdentifier,
+    BadValue,
+    NoCapacity,
+    JoinWithItself,
+    ShortOutput,
+    BadFile,
+}
+
+pub enum Opened {
+    Done,
+    Refused(Refusal),
+}
+
+// Found, and the atoms removed.
+pub enum Edited {
+    Done(u64, u64),
+    Refused(Refusal),
+}
+
+// The number of hits.
+pub enum Found {
+    Hits(u64),
+    Refused(Refusal),
+}
+
+// The record numbers of an atom and of what it stands under.
+pub struct RecordNumbers {
+    pub model: u64,
+    pub chain: u64,
+    pub residue: u64,
+    pub conformer: u64,
+    pub atom: u64,
+}
+
+pub enum LookedUp {
+    At(RecordNumbers),
+    NotFound,
+    Refused(Refusal),
+}
