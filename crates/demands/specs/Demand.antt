@@ -1,16 +1,16 @@
 -- The third demand: one theorem over any list of edits from a store just opened, and any runs of find after it.
 -- Assumes nothing.
-use Prim.Native.Nat.{ℕ, zero, suc, _+_}
-use mathlib.Core.Path.{_≡_, refl, sym, ap, ap₂, _∙_}
+use Prim.Native.Nat.{ℕ, _+_}
+use mathlib.Core.Path.{_≡_, refl, sym, ap, _∙_}
 use mathlib.Core.Bool.{Bool, true, false, _&&_, _||_, cond, false≢true}
-use mathlib.Core.List.{List, [], _∷_, _++_, map, map-map}
+use mathlib.Core.List.{List, [], _∷_, map, map-map}
 use native.Mathlib.Omega.{arith}
-use lib.ListN.{length, getD, replicate, length-map}
+use lib.ListN.{length, replicate, length-map}
 use Rattle.machine.specs.Lists.{those}
 use Rattle.machine.specs.Answer.{Result, ok, refused}
 use Rattle.machine.specs.Store.{Machine, records, stored, layOut, goodLength, readStore, openRun}
-use Rattle.machine.specs.Kleene.{notT, andT, orT, isHit, isUndecided}
-use Rattle.machine.specs.Query.{treeValue, termValue, tables, andTree, orTree, notTree}
+use Rattle.machine.specs.Kleene.{notT, isHit, isUndecided}
+use Rattle.machine.specs.Query.{tables, andTree, orTree, notTree}
 use Rattle.machine.specs.Find.{Site, atomsOf, valueAt, hitsIn, findRun}
 use Rattle.machine.specs.Edit.{Call, Change, machineStep, answer, next, relaid, storeStep, machineAfter, machineAnswers, storeAfter, storeAnswers}
 use Rattle.machine.specs.Demand.{added, removed, Accepted, count, list, listed, shared, atomNumber, Rising, undecided}

@@ -1,14 +1,13 @@
 -- What an accepted run of find lists, on words that hold a machine. Assumes nothing.
-use Prim.Native.Nat.{ℕ, zero, suc, _+_, _*_, _≤_}
+use Prim.Native.Nat.{ℕ, _*_}
 use mathlib.Core.Path.{_≡_, refl, sym, ap, _∙_}
-use mathlib.Core.Bool.{Bool, true, false, cond, false≢true}
-use mathlib.Core.List.{List, [], _∷_, _++_, map, append-assoc}
-use native.Mathlib.Omega.{arith}
-use lib.ListN.{length, getD, take, drop}
+use mathlib.Core.Bool.{Bool, true, false, false≢true}
+use mathlib.Core.List.{List, [], _∷_, _++_, append-assoc}
+use lib.ListN.{length, drop}
 use lib.Seq.{take-at, drop-at}
-use lib.Dec.{leb, eqb}
+use lib.Dec.{leb}
 use Rattle.machine.specs.Lists.{those}
-use Rattle.machine.specs.Answer.{Result, ok, refused, _>>=_, _>>_, refusalNumber}
+use Rattle.machine.specs.Answer.{Result, ok, refused, _>>_}
 use Rattle.machine.specs.Store.{Machine, readStore}
 use Rattle.machine.specs.Kleene.{isHit}
 use Rattle.machine.specs.Query.{readTree, tables}

@@ -4,7 +4,7 @@ use mathlib.Core.Path.{_≡_}
 use mathlib.Core.Bool.{Bool, true, _&&_}
 use lib.ListN.{length}
 use Rattle.machine.specs.Lists.{all}
-use Rattle.machine.specs.Record.{Fields, goodFields}
+use Rattle.machine.specs.Record.{goodFields}
 use Rattle.machine.specs.Store.{Branch, Machine, records, capacity}
 
 -- every record of a branch has good fields

@@ -1,9 +1,8 @@
 -- Laws of Kleene's tables. Assumes nothing.
-use Prim.Native.Nat.{ℕ, _+_}
 use mathlib.Core.Path.{_≡_, refl, ap, _∙_}
 use mathlib.Core.Bool.{Bool, true, false, not, _&&_, _||_, xor, Bool·beq, cond}
 use mathlib.Core.Option.{Option, none, some, Option·map}
-use Rattle.machine.specs.Kleene.{decided, notT, andT, orT, xorT, applyT, isHit, isUndecided}
+use Rattle.machine.specs.Kleene.{decided, notT, andT, orT, applyT, isHit, isUndecided}
 use Rattle.machine.specs.declared.Tri.{Tri}
 use Rattle.machine.specs.declared.Tri.the-variants.{False, True, Undecided}
 use Rattle.machine.specs.declared.Ops.{Ops}
@@ -107,24 +106,18 @@ unfolding simplifyOps xor
 simplify-ops And none none = refl
 simplify-ops And none (some true) = refl
 simplify-ops And none (some false) = refl
+simplify-ops And (some false) b = refl
 simplify-ops And (some true) none = refl
-simplify-ops And (some false) none = refl
 simplify-ops And (some true) (some true) = refl
 simplify-ops And (some true) (some false) = refl
-simplify-ops And (some false) (some true) = refl
-simplify-ops And (some false) (some false) = refl
 simplify-ops Or none none = refl
 simplify-ops Or none (some true) = refl
 simplify-ops Or none (some false) = refl
-simplify-ops Or (some true) none = refl
+simplify-ops Or (some true) b = refl
 simplify-ops Or (some false) none = refl
-simplify-ops Or (some true) (some true) = refl
-simplify-ops Or (some true) (some false) = refl
 simplify-ops Or (some false) (some true) = refl
 simplify-ops Or (some false) (some false) = refl
-simplify-ops Xor none none = refl
-simplify-ops Xor none (some true) = refl
-simplify-ops Xor none (some false) = refl
+simplify-ops Xor none b = refl
 simplify-ops Xor (some true) none = refl
 simplify-ops Xor (some false) none = refl
 simplify-ops Xor (some true) (some true) = refl

@@ -1,20 +1,18 @@
 -- The atoms of a machine are what one pass over its records finds, the last record of each kind being the place.
 -- Assumes nothing.
 use Prim.Native.Nat.{ℕ, zero, suc, _+_, _-_, _≤_, _<_}
-use mathlib.Core.Path.{_≡_, refl, sym, ap, ap₂, _∙_}
-use mathlib.Core.Bool.{Bool, true, false, _&&_}
+use mathlib.Core.Path.{_≡_, refl, ap, _∙_}
 use mathlib.Core.List.{List, [], _∷_, _++_, append-assoc, append-nil}
-use mathlib.Core.Option.{Option, none, some}
-use native.Mathlib.Nat.{add-assoc, add-zero, add-suc, suc-add}
+use native.Mathlib.Nat.{add-assoc, add-zero}
 use native.Mathlib.Omega.{arith}
 use lib.ListN.{length, take, length-append}
 use lib.Seq.{take-append-le, take-all}
-use lib.Dec.{leb, eqb}
-use borrow.Author.Tests.{lt-leb, le-leb, ne-eqb, eq-eqb}
+use lib.Dec.{eqb}
+use borrow.Author.Tests.{lt-leb, ne-eqb}
 use Rattle.machine.specs.Lists.{keep, bind, along}
 use Rattle.machine.specs.Record.{Fields, Words, words, kind, fieldsOf}
 use Rattle.machine.specs.Store.{Branch, Machine, flat, records}
-use Rattle.machine.specs.Query.{Place, onlyIf, between, window}
+use Rattle.machine.specs.Query.{Place, window}
 use Rattle.machine.specs.Find.{Site, enter, below, top, size, atomsIn, atomsOf}
 use Rattle.laws.specs.Grouped.{words-kind}
 

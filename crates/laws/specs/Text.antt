@@ -8,7 +8,7 @@ use lib.ListN.{length}
 use lib.Dec.{leb, eqb}
 use borrow.Author.Tests.{leb-true, eqb-true, le-leb, lt-leb, eq-eqb, ne-eqb}
 use Rattle.machine.specs.Lists.{all, isEmpty, same}
-use Rattle.machine.specs.Text.{packed, pack, unpacked, withoutZeros, textOf, plain, blank, raise, trimStart, trim, fit, chainId, raised, insertionCode, conformerName, alternativeLocation, atomName, storedBy, matches, packedText}
+use Rattle.machine.specs.Text.{pack, textOf, plain, blank, raise, trimStart, trim, fit, chainId, raised, insertionCode, conformerName, alternativeLocation, atomName, storedBy, matches, packedText}
 use Rattle.machine.specs.declared.Prepared.{Prepared}
 use Rattle.machine.specs.declared.Prepared.the-variants.{Stored, Absent, Bad}
 use Rattle.laws.specs.Lists.{and-both, same-true, same-refl}
@@ -222,25 +222,3 @@ unfolding matches
 matches-unpackable t w p n = both-ways (not (isEmpty t) && same t (textOf w)) false
     (λ e. sym n ∙ packedText-fits t w p (same-true t (textOf w) (and-both (not (isEmpty t)) (same t (textOf w)) e .1)))
     (λ e. absurd (false≢true e))
-
--- ---- what tells the definitions from near misses
-
--- a zero byte at the end isn't padding in a text as given
-pub no-zero-byte : matches (65 ∷ 0 ∷ []) (pack (65 ∷ [])) ≡ false
-unfolding matches textOf withoutZeros unpacked packed
-no-zero-byte = refl
-
--- 9 and 32 are blanks, 14 isn't
-pub blanks-trimmed : trim (9 ∷ 32 ∷ 14 ∷ 32 ∷ 9 ∷ []) ≡ 14 ∷ []
-unfolding trim trimStart
-blanks-trimmed = refl
-
--- bytes end at 126
-pub byte-127-bad : chainId (127 ∷ []) ≡ Bad
-unfolding chainId trim trimStart
-byte-127-bad = refl
-
--- texts end at eight bytes
-pub nine-bytes-bad : chainId (65 ∷ 65 ∷ 65 ∷ 65 ∷ 65 ∷ 65 ∷ 65 ∷ 65 ∷ 65 ∷ []) ≡ Bad
-unfolding chainId trim trimStart
-nine-bytes-bad = refl

@@ -1,7 +1,7 @@
 -- More levels known: what is decided stays, so a branch where a tree is false has no hit below. Assumes nothing.
 use Prim.Native.Nat.{ℕ, _≤_}
-use mathlib.Core.Path.{_≡_, refl, sym, _∙_}
-use mathlib.Core.Bool.{Bool, true, false, not, _&&_, cond, false≢true}
+use mathlib.Core.Path.{_≡_, refl}
+use mathlib.Core.Bool.{Bool, true, false, cond, false≢true}
 use mathlib.Core.List.{List}
 use mathlib.Core.Option.{Option, none, some}
 use native.Mathlib.Omega.{arith}
@@ -10,7 +10,7 @@ use borrow.Author.Tests.{leb-true, le-leb}
 use Rattle.machine.specs.Record.{Conformer, Atom}
 use Rattle.machine.specs.Query.{treeValue, Place, Names, onlyIf, between, window, known, elementIs, member, amongResidues, termValue}
 use Rattle.machine.specs.declared.Tri.{Tri}
-use Rattle.machine.specs.declared.Tri.the-variants.{False, True, Undecided}
+use Rattle.machine.specs.declared.Tri.the-variants.{False, Undecided}
 use Rattle.machine.specs.declared.Term.{Term}
 use Rattle.machine.specs.declared.Term.the-variants.{ModelSerialNumber, ModelSerialNumberRange, ChainId, ChainIdRange, ResidueSerialNumber, ResidueSerialNumberRange, ResidueInsertionCode, ResidueId, ConformerName, ConformerAlternativeLocation, ConformerId, AtomSerialNumber, AtomSerialNumberRange, AtomName, Element, BFactor, BFactorRange, Occupancy, OccupancyRange, Backbone, SideChain, Hetero}
 use Rattle.laws.specs.Lists.{and-both, and-true}

@@ -1,6 +1,6 @@
 -- "A result is 0 with its fields, or one of these": the refusals' numbers, and the numbers of every answer. Assumes nothing.
 use Prim.Native.Nat.{ℕ}
-use mathlib.Core.Bool.{Bool, true, false, cond}
+use mathlib.Core.Bool.{Bool, true, false}
 use mathlib.Core.List.{List, [], _∷_}
 use Rattle.machine.specs.declared.Refusal.{Refusal}
 use Rattle.machine.specs.declared.Refusal.the-variants.{BadLength, BrokenLayout, TreeShape, TreeNode, NoPosition, BadIdentifier, BadValue, NoCapacity, JoinWithItself, ShortOutput, BadFile}
@@ -10,7 +10,6 @@ use Rattle.machine.specs.declared.Opened as Opened
 use Rattle.machine.specs.declared.Edited as Edited
 use Rattle.machine.specs.declared.Found as Found
 use Rattle.machine.specs.declared.LookedUp as LookedUp
-use Rattle.machine.specs.declared.RecordNumbers.{RecordNumbers}
 
 -- "Refusal numbers by their cause"
 abbrev pub refusalNumber : Refusal → ℕ

@@ -1,18 +1,16 @@
 -- Document 01, "Worked cases, proved": one table of the definitions, one theorem. Assumes nothing.
-use Prim.Native.Nat.{ℕ, _+_, _-_, _*_, _/_, _%_, _^_}
+use Prim.Native.Nat.{ℕ, _-_, _/_, _%_, _^_}
 use Prim.Native.String.{String}
 use mathlib.Core.Path.{_≡_, refl}
-use mathlib.Core.Bool.{Bool, true, false}
 use mathlib.Core.List.{List, [], _∷_, _++_, map}
-use mathlib.Core.Option.{Option, none, some}
-use lib.ListN.{length, getD, take, drop, replicate}
+use lib.ListN.{length, getD, replicate}
 use lib.Ieee.{ofBits, sub, lt}
 use Rattle.machine.specs.Lists.{bind, bytes}
 use Rattle.machine.specs.Answer.{Result, ok, refused, refusalNumber}
 use Rattle.machine.specs.Text.{packed, unpacked, withoutZeros, textOf, trimStart, trim, chainId, raised, atomName, matches, storedBy, packedText, Optional}
 use Rattle.machine.specs.Record.{Words, words, fieldsOf, goodValues, goodFields, goodRecord, readOut}
-use Rattle.machine.specs.Store.{flat, atomCount, laid, layOut, inOrder, goodLayout, cut, group, readStore, openRun}
-use Rattle.machine.specs.Query.{codes, nodeOf, nodesOf, run, leavesOne, readTree, treeValue, window, dropSign, close, termValue, tables, packedName}
+use Rattle.machine.specs.Store.{flat, atomCount, laid, layOut, inOrder, goodLayout, cut, group, readStore}
+use Rattle.machine.specs.Query.{codes, nodeOf, nodesOf, run, leavesOne, readTree, treeValue, dropSign, close, termValue, tables, packedName}
 use Rattle.machine.specs.Find.{enter, atomsIn, atomsOf, hitsIn, hitsOf, findRun}
 use Rattle.machine.specs.Edit.{NewAtom, Call, AddModel, AddAtom, branchAt, replaceAt, addModel, prepare, upsert, addAtom, machineStep, storeStep, storeAfter, storeAnswers}
 use Rattle.machine.specs.Program.{readInput, digits, printed, programRun}

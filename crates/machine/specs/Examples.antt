@@ -2,21 +2,21 @@
 -- Assumes nothing.
 use Prim.Native.Nat.{ℕ}
 use mathlib.Core.Path.{_≡_, refl}
-use mathlib.Core.Bool.{Bool, true, false, cond}
+use mathlib.Core.Bool.{Bool, cond}
 use mathlib.Core.List.{List, [], _∷_, _++_, map}
 use lib.ListN.{length, replicate}
 use lib.Ieee.{ofBits, sub, lt}
 use Rattle.machine.specs.Lists.{bytes, bind}
 use Rattle.machine.specs.Answer.{Result, ok, refused, refusalNumber}
-use Rattle.machine.specs.Text.{packed, pack, unpacked, withoutZeros, textOf, trimStart, trim, chainId, raised, atomName, alternativeLocation, insertionCode, wordOf, matches, matchesOptional, storedBy, packedText, Optional}
-use Rattle.machine.specs.Record.{Words, words, fieldsOf, goodValues, goodFields, goodRecord, readOut}
+use Rattle.machine.specs.Text.{packed, pack, unpacked, withoutZeros, textOf, trimStart, trim, chainId, raised, atomName, alternativeLocation, insertionCode, matches, matchesOptional, storedBy, packedText}
+use Rattle.machine.specs.Record.{words, fieldsOf, goodValues, goodFields, goodRecord, readOut}
 use Rattle.machine.specs.Store.{flat, atomCount, laid, layOut, inOrder, goodLayout, cut, group, readStore, openRun}
-use Rattle.machine.specs.Query.{codes, nodeOf, nodesOf, run, leavesOne, readTree, treeValue, window, dropSign, close, termValue, tables, packedName}
+use Rattle.machine.specs.Query.{codes, nodeOf, nodesOf, run, leavesOne, readTree, treeValue, termValue, tables, packedName}
 use Rattle.machine.specs.Find.{enter, atomsIn, atomsOf, hitsIn, hitsOf, findRun}
-use Rattle.machine.specs.Edit.{NewAtom, Call, AddModel, AddAtom, RemoveChain, RemoveAtom, RemoveChainById, RemoveResidueById, RemoveConformerById, RemoveAtomBySerialNumber, RemoveAtomsBy, RemoveEmpty, JoinModels, JoinResidues, branchAt, replaceAt, addModel, prepare, upsert, addAtom, removeAt, removeFirst, keepAtoms, removeAtomsBy, nonEmpty, removeEmpty, joinAt, machineStep, storeStep, storeAfter, storeAnswers}
+use Rattle.machine.specs.Edit.{Call, AddModel, AddAtom, RemoveChain, RemoveAtom, RemoveChainById, RemoveResidueById, RemoveConformerById, RemoveAtomBySerialNumber, RemoveAtomsBy, RemoveEmpty, JoinModels, JoinResidues, branchAt, replaceAt, addModel, prepare, upsert, addAtom, removeAt, removeFirst, keepAtoms, removeAtomsBy, nonEmpty, removeEmpty, joinAt, machineStep, storeStep, storeAfter, storeAnswers}
 use Rattle.machine.specs.Lookup.{numbered, serials, lookupIn, lookupRun}
-use Rattle.machine.specs.Program.{readInput, Input, digits, printed, programRun}
-use Rattle.machine.specs.Cases.{record12, store, six, S, node, element7, found, absent, present, atom, zeros, atomRecord, file, eightBytes, Case}
+use Rattle.machine.specs.Program.{readInput, digits, printed, programRun}
+use Rattle.machine.specs.Cases.{record12, store, S, node, element7, found, absent, present, atom, zeros, atomRecord, file, eightBytes, Case}
 use Rattle.machine.specs.declared.Prepared.{Prepared}
 use Rattle.machine.specs.declared.Prepared.the-variants.{Stored, Absent, Bad}
 
@@ -43,10 +43,10 @@ lines ls = bind (λ (l : List ℕ). l) ls
 
 -- ---- stores
 
--- chain X is empty; two atoms and then a third of serial 5, the third in the next residue, at location B; a second model
+-- chain X is empty; three atoms have serial 5, the third in the next residue, at location B; serial 6 is in the second model
 unfoldable pub serialStore : List ℕ
 serialStore =
-    store 169
+    store 181
     (record12 (1 ∷ 1 ∷ [])
     ∷ record12 (2 ∷ packedName "X" ∷ [])
     ∷ record12 (2 ∷ packedName "A" ∷ [])
@@ -61,6 +61,7 @@ serialStore =
     ∷ record12 (2 ∷ packedName "A" ∷ [])
     ∷ record12 (3 ∷ 7 ∷ [])
     ∷ record12 (4 ∷ packedName "ALA" ∷ [])
+    ∷ atomRecord 6
     ∷ [])
 
 -- two models with a chain A each, and then those chains in one model
@@ -124,6 +125,9 @@ examples =
     ∷ example (refusalOf (readTree (node 28 0 0 ++ node 28 0 0))) (3 ∷ [])
     ∷ example (refusalOf (readTree (node 26 0 0 ++ node 28 0 0))) (3 ∷ [])
     ∷ example (refusalOf (readTree (node 28 0 0 ++ node 23 0 0 ++ node 28 0 0 ++ node 28 0 0))) (3 ∷ [])
+    -- Kleene's tables: an undecided side stays open under Or with false, and under And with true
+    ∷ example (found S (element7 ++ node 27 0 0 ++ node 24 0 0)) (4 ∷ 5 ∷ [])
+    ∷ example (found S (element7 ++ node 28 0 0 ++ node 23 0 0 ++ node 26 0 0)) (5 ∷ [])
     -- find: an output too short stays, and one that fits exactly is enough
     ∷ example (lines (findRun S element7 (replicate 9 8) .0 ∷ findRun S element7 (replicate 9 8) .1 ∷ [])) (10 ∷ 0 ∷ replicate 9 8)
     ∷ example (findRun S element7 (replicate 10 8) .0) (0 ∷ 2 ∷ [])

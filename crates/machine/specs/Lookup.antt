@@ -1,13 +1,12 @@
 -- Document 01, "Serial lookup". Assumes nothing.
 use Prim.Native.Nat.{ℕ, zero, suc, _+_}
-use mathlib.Core.Bool.{Bool, true, false, _&&_, cond}
+use mathlib.Core.Bool.{Bool, false, _&&_, cond}
 use mathlib.Core.List.{List, [], _∷_}
 use mathlib.Core.Option.{Option, none, some}
 use lib.Dec.{leb, eqb}
 use Rattle.machine.specs.Lists.{any, lastOf, bind, andThen}
 use Rattle.machine.specs.Answer.{Result, ok, refused, _>>=_, _>>_, need, badName, lookedUpNumbers}
 use Rattle.machine.specs.Text.{Optional, goodFlag, matchesOptional}
-use Rattle.machine.specs.Record.{Atom}
 use Rattle.machine.specs.Store.{Branch, Machine, readStore}
 use Rattle.machine.specs.Find.{size}
 use Rattle.machine.specs.declared.Name.the-variants.{AlternativeLocation}

@@ -11,13 +11,13 @@ use lib.Signed.{leZ}
 use lib.Ieee.{Float, nan, inf, fin, binary64, ofBits, sub, lt, le}
 use mir.Syntax.{w64}
 use mir.Val.{toZ}
-use Rattle.machine.specs.Lists.{all, any, nth, andThen, bytes}
+use Rattle.machine.specs.Lists.{any, nth, andThen, bytes}
 use Rattle.machine.specs.Answer.{Result, ok, refused, _>>=_, _>>_, need}
 use Rattle.machine.specs.Text.{pack, packedText}
 use Rattle.machine.specs.Record.{Model, Chain, Residue, Conformer, Atom, readOut}
 use Rattle.machine.specs.Kleene.{decided, notT, applyT}
 use Rattle.machine.specs.declared.Tri.{Tri}
-use Rattle.machine.specs.declared.Tri.the-variants.{False, True, Undecided}
+use Rattle.machine.specs.declared.Tri.the-variants.{False, Undecided}
 use Rattle.machine.specs.declared.Term.{Term}
 use Rattle.machine.specs.declared.Term.the-variants.{ModelSerialNumber, ModelSerialNumberRange, ChainId, ChainIdRange, ResidueSerialNumber, ResidueSerialNumberRange, ResidueInsertionCode, ResidueId, ConformerName, ConformerAlternativeLocation, ConformerId, AtomSerialNumber, AtomSerialNumberRange, AtomName, Element, BFactor, BFactorRange, Occupancy, OccupancyRange, Backbone, SideChain, Hetero}
 use Rattle.machine.specs.declared.Ops.the-variants.{And, Or, Xor}

@@ -1,8 +1,8 @@
 -- Document 01, "Store": one record. Levels count from the atom, 0, up to the model, 4; a record's kind is 5 less its level.
 -- Numbers signed in the document are held as their bits, and so are floats. Assumes nothing.
-use Prim.Native.Nat.{ℕ, zero, suc, _-_}
+use Prim.Native.Nat.{ℕ, zero, suc}
 use mathlib.Core.Bool.{Bool, true, false, _&&_}
-use mathlib.Core.List.{List, [], _∷_, _++_}
+use mathlib.Core.List.{List, [], _∷_}
 use lib.ListN.{getD, replicate}
 use lib.Dec.{leb, eqb}
 use lib.Ieee.{Float, nan, inf, fin, binary64, ofBits}

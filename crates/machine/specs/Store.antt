@@ -6,7 +6,7 @@ use mathlib.Core.List.{List, [], _∷_, _++_, map}
 use lib.ListN.{length, getD, take, drop, replicate}
 use lib.Dec.{leb, eqb}
 use Rattle.machine.specs.Lists.{all, sum, bind}
-use Rattle.machine.specs.Answer.{Result, ok, refused, _>>=_, _>>_, need, openedNumbers}
+use Rattle.machine.specs.Answer.{Result, ok, _>>=_, _>>_, need, openedNumbers}
 use Rattle.machine.specs.Record.{Fields, Words, words, kind, fieldsOf, goodRecord}
 use Rattle.machine.specs.declared.Refusal.the-variants.{BadLength, BrokenLayout}
 use Rattle.machine.specs.declared.Opened as Opened

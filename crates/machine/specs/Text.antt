@@ -1,6 +1,6 @@
 -- Document 01, "Identifiers". A text is its list of bytes. Assumes nothing.
 use Prim.Native.Nat.{ℕ, zero, suc, _+_, _-_, _*_, _/_, _%_, _^_}
-use mathlib.Core.Bool.{Bool, true, false, not, _&&_, _||_, cond}
+use mathlib.Core.Bool.{Bool, false, not, _&&_, _||_, cond}
 use mathlib.Core.List.{List, [], _∷_, map, reverse}
 use lib.ListN.{length}
 use lib.Dec.{leb, eqb}
@@ -83,12 +83,6 @@ alternativeLocation t = raised t Absent
 -- "Atom name: trimmed, then checked; may be empty; a..z raised."
 unfoldable pub atomName : List ℕ → Prepared
 atomName t = cond (all plain (trim t)) (fit (map raise (trim t))) Bad
-
--- the word that the store gets: "0 means absent, or empty for an atom name"
-abbrev pub wordOf : Prepared → ℕ
-wordOf (Stored w) = w
-wordOf Absent = 0
-wordOf Bad = 0
 
 -- ---- optional arguments
 
