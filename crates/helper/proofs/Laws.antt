@@ -1,0 +1,353 @@
+-- Laws of texts, one for each place of the code. Assumes nothing.
+use Prim.Native.Nat.{ℕ, zero, suc, _+_, _-_, _*_, _/_, _%_, _^_, _≤_, _<_}
+use mathlib.Core.Path.{_≡_, refl, sym, ap, _∙_}
+use mathlib.Core.Bool.{Bool, true, false, cond, not, _&&_, false≢true, and-false}
+use mathlib.Core.List.{List, [], _∷_, _++_, reverse, map, reverse-append, reverse-reverse}
+use native.Mathlib.Numerals.{add-one}
+use native.Mathlib.Nat.{pow-suc, one-le-pow, mul-le-mul-right, div-eq-of-lt, mod-eq-of-lt, mul-add-div-right, mul-add-mod-self-right, zero-div, zero-mod}
+use native.Mathlib.Omega.{arith}
+use lib.ListN.{length, take, drop, getD, length-drop, drop-of-length-le, List·getD-eq-default, List·getD-map, length-map}
+use lib.Seq.{drop-cons, take-suc, take-length, length-take-le}
+use lib.Dec.{eqb, ltb}
+use borrow.Author.Tests.{eq-eqb, ne-eqb, eqb-true, le-leb, lt-leb, lt-ltb, le-ltb}
+use Rattle.machine.specs.Lists.{all, isEmpty, same}
+use Rattle.machine.specs.Text.{packed, pack, unpacked, beforeZeros, withoutZeros, textOf, plain, blank, raise, trimStart, trim, fit, chainId, raised, atomName, byFlag, matches, matchesOptional}
+use Rattle.machine.specs.declared.Prepared.{Prepared}
+use Rattle.machine.specs.declared.Prepared.the-variants.{Stored, Absent, Bad}
+use Rattle.laws.specs.Lists.{and-both, same-true, same-refl}
+use Rattle.laws.specs.Packing.{pack-textOf, length-textOf, both-ways}
+use Rattle.helper.specs.Tidy.{trimEnd, inCase}
+
+-- ---- trimming
+
+next : (t : List ℕ) (i : ℕ) → i < length t → drop i t ≡ getD t i 0 ∷ drop (i + 1) t
+next t i h = drop-cons t i 0 h ∙ rw add-one
+
+trimStart-cons : (b : ℕ) (bs : List ℕ) (a : Bool) → a ≡ blank b → trimStart (b ∷ bs) ≡ cond a (trimStart bs) (b ∷ bs)
+unfolding trimStart
+trimStart-cons b bs a e = rw e
+
+-- `ink_start`: the blanks before i are trimmed
+pub record Started (t : List ℕ) (i : ℕ) : Type 0 where
+  pub within : i ≤ length t
+  pub same : trimStart t ≡ trimStart (drop i t)
+
+pub start-begin : (t : List ℕ) → Started t 0
+start-begin t = record { within = omega arith; same = refl }
+
+pub start-again : (t : List ℕ) (i : ℕ) (a : Bool) → Started t i → i < length t → a ≡ blank (getD t i 0) → a ≡ true → Started t (i + 1)
+start-again t i a s h p q = record {
+  within = omega arith;
+  same = s .same ∙ ap trimStart (next t i h) ∙ trimStart-cons (getD t i 0) (drop (i + 1) t) a p ∙ rw q;
+}
+
+pub start-ink : (t : List ℕ) (i : ℕ) (a : Bool) → Started t i → i < length t → a ≡ blank (getD t i 0) → a ≡ false → trimStart t ≡ drop i t
+start-ink t i a s h p q = s .same ∙ ap trimStart (next t i h) ∙ trimStart-cons (getD t i 0) (drop (i + 1) t) a p ∙ rw q (sym (next t i h))
+
+pub start-none : (t : List ℕ) (i : ℕ) → Started t i → length t ≤ i → trimStart t ≡ drop i t
+unfolding trimStart
+start-none t i s h = s .same ∙ rw (drop-of-length-le t {i = i} h)
+
+trimEnd-snoc : (bs : List ℕ) (b : ℕ) (a : Bool) → a ≡ blank b → trimEnd (bs ++ (b ∷ [])) ≡ cond a (trimEnd bs) (bs ++ (b ∷ []))
+unfolding trimEnd
+trimEnd-snoc bs b a e = rw (reverse-append bs (b ∷ []), trimStart-cons b (reverse bs) a e) (go a)
+  where
+    go : (a : Bool) → reverse (cond a (trimStart (reverse bs)) (b ∷ reverse bs)) ≡ cond a (reverse (trimStart (reverse bs))) (bs ++ (b ∷ []))
+    go true = refl
+    go false = rw (← reverse-append bs (b ∷ []), reverse-reverse)
+
+-- `ink_end`: the blanks from i on are trimmed
+pub record Ended (t : List ℕ) (i : ℕ) : Type 0 where
+  pub within : i ≤ length t
+  pub same : trimEnd t ≡ trimEnd (take i t)
+
+pub end-begin : (t : List ℕ) → Ended t (length t)
+end-begin t = record { within = omega arith; same = rw take-length }
+
+last : (t : List ℕ) (i : ℕ) → 0 < i → i ≤ length t → take i t ≡ take (i - 1) t ++ (getD t (i - 1) 0 ∷ [])
+last t i h k = let q : i ≡ suc (i - 1) = omega arith in ap (λ (x : ℕ). take x t) q ∙ take-suc t (i - 1) 0 (omega arith)
+
+pub end-again : (t : List ℕ) (i : ℕ) (a : Bool) → Ended t i → 0 < i → a ≡ blank (getD t (i - 1) 0) → a ≡ true → Ended t (i - 1)
+end-again t i a s h p q = record {
+  within = omega arith;
+  same = s .same ∙ ap trimEnd (last t i h (s .within)) ∙ trimEnd-snoc (take (i - 1) t) (getD t (i - 1) 0) a p ∙ rw q;
+}
+
+pub end-ink : (t : List ℕ) (i : ℕ) (a : Bool) → Ended t i → 0 < i → a ≡ blank (getD t (i - 1) 0) → a ≡ false → trimEnd t ≡ take i t
+end-ink t i a s h p q =
+    s .same ∙ ap trimEnd (last t i h (s .within)) ∙ trimEnd-snoc (take (i - 1) t) (getD t (i - 1) 0) a p ∙ rw q (sym (last t i h (s .within)))
+
+pub end-none : (t : List ℕ) (i : ℕ) → Ended t i → i ≤ 0 → trimEnd t ≡ take i t
+unfolding trimEnd trimStart
+end-none t i s h = let q : i ≡ 0 = omega arith in s .same ∙ rw q
+
+-- `trimmed`: the part from a on is what `drop` leaves
+rest : List ℕ → ℕ → List ℕ
+rest t a = take (length t - a) (drop a t)
+
+rest-is : (t : List ℕ) (a : ℕ) → rest t a ≡ drop a t
+unfolding rest
+rest-is t a = rw (← length-drop a t, take-length)
+
+pub trim-is : (t : List ℕ) (a e : ℕ) → trimStart t ≡ drop a t → trimEnd (take (length t - a) (drop a t)) ≡ take e (take (length t - a) (drop a t))
+    → take e (take (length t - a) (drop a t)) ≡ trim t
+unfolding trim trimEnd rest
+trim-is t a e p q = sym q ∙ ap trimEnd (rest-is t a) ∙ rw p
+
+pub part-length : (e : ℕ) (u : List ℕ) → e ≤ length u → e ≡ length (take e u)
+part-length e u h = sym (length-take-le e u h)
+
+-- ---- checks and packing
+
+-- `valid_text`: the bytes before i are plain
+pub record Valid (t : List ℕ) (i : ℕ) : Type 0 where
+  pub within : i ≤ length t
+  pub same : all plain t ≡ all plain (drop i t)
+
+pub valid-begin : (t : List ℕ) → Valid t 0
+valid-begin t = record { within = omega arith; same = refl }
+
+all-next : (t : List ℕ) (i : ℕ) (a : Bool) → i < length t → a ≡ plain (getD t i 0) → all plain (drop i t) ≡ (a && all plain (drop (i + 1) t))
+all-next t i a h p = ap (all plain) (next t i h) ∙ rw p
+
+pub valid-again : (t : List ℕ) (i : ℕ) (a : Bool) → Valid t i → i < length t → a ≡ plain (getD t i 0) → a ≡ true → Valid t (i + 1)
+valid-again t i a s h p q = record { within = omega arith; same = s .same ∙ all-next t i a h p ∙ rw q }
+
+pub valid-not : (t : List ℕ) (i : ℕ) (a : Bool) → Valid t i → i < length t → a ≡ plain (getD t i 0) → a ≡ false → false ≡ all plain t
+valid-not t i a s h p q = sym (s .same ∙ all-next t i a h p ∙ rw q)
+
+pub valid-done : (t : List ℕ) (i : ℕ) → Valid t i → length t ≤ i → true ≡ all plain t
+valid-done t i s h = sym (s .same ∙ rw (drop-of-length-le t {i = i} h))
+
+-- `cased`
+pub kept : (up : Bool) (b : ℕ) → not up ≡ true → b ≡ cond up (raise b) b
+kept true b h = absurd (false≢true h)
+kept false b h = refl
+
+module _ (up : Bool) (b : ℕ) (u : not up ≡ false) where
+  raises : cond up (raise b) b ≡ raise b
+  raises = go up u
+    where
+      go : (up : Bool) → not up ≡ false → cond up (raise b) b ≡ raise b
+      go true u = refl
+      go false u = absurd (false≢true (sym u))
+
+  pub raise-low : b < 97 → b ≡ cond up (raise b) b
+  raise-low h = rw (raises, lt-leb 97 b h)
+
+  pub raise-high : 97 ≤ b → 122 < b → b ≡ cond up (raise b) b
+  raise-high k h = rw (raises, le-leb 97 b k, lt-leb b 122 h)
+
+  pub raise-mid : 97 ≤ b → b ≤ 122 → b - 32 ≡ cond up (raise b) b
+  raise-mid k h = rw (raises, le-leb 97 b k, le-leb b 122 h)
+
+-- `digit`
+getD-case : (up : Bool) (t : List ℕ) (i : ℕ) → getD (inCase up t) i 0 ≡ cond up (raise (getD t i 0)) (getD t i 0)
+getD-case true t i = List·getD-map raise t i 0
+getD-case false t i = refl
+
+pub digit-in : (up : Bool) (t : List ℕ) (i r : ℕ) → r ≡ cond up (raise (getD t i 0)) (getD t i 0) → r ≡ getD (inCase up t) i 0
+digit-in up t i r p = p ∙ sym (getD-case up t i)
+
+pub digit-out : (up : Bool) (t : List ℕ) (i : ℕ) → length t ≤ i → 0 ≡ getD (inCase up t) i 0
+digit-out up t i h = sym (getD-case up t i ∙ rw (List·getD-eq-default t 0 {n = i} h) (go up))
+  where
+    go : (up : Bool) → cond up (raise 0) 0 ≡ 0
+    go true = refl
+    go false = refl
+
+-- `pack_text`
+packed-at : (i n : ℕ) (t : List ℕ) → packed (suc n) (drop i t) ≡ getD t i 0 * 256 ^ n + packed n (drop (suc i) t)
+unfolding packed
+packed-at zero n [] = omega arith
+packed-at zero n (b ∷ bs) = refl
+packed-at (suc i) n [] = omega arith
+packed-at (suc i) n (b ∷ bs) = packed-at i n bs
+
+packed-none : (t : List ℕ) → packed zero t ≡ 0
+unfolding packed
+packed-none [] = refl
+packed-none (b ∷ bs) = refl
+
+eight-digits : (t : List ℕ) → pack t ≡ getD t 0 0 * 0x100_0000_0000_0000 + getD t 1 0 * 0x1_0000_0000_0000 + getD t 2 0 * 0x100_0000_0000
+    + getD t 3 0 * 0x1_0000_0000 + getD t 4 0 * 0x100_0000 + getD t 5 0 * 0x1_0000 + getD t 6 0 * 0x100 + getD t 7 0
+eight-digits t =
+    let e₀ = packed-at 0 7 t in
+    let e₁ = packed-at 1 6 t in
+    let e₂ = packed-at 2 5 t in
+    let e₃ = packed-at 3 4 t in
+    let e₄ = packed-at 4 3 t in
+    let e₅ = packed-at 5 2 t in
+    let e₆ = packed-at 6 1 t in
+    let e₇ = packed-at 7 0 t in
+    let e₈ = packed-none (drop 8 t) in
+    omega arith
+
+pub pack-eight : (t : List ℕ) (d₀ d₁ d₂ d₃ d₄ d₅ d₆ d₇ : ℕ)
+    → d₀ ≡ getD t 0 0 → d₁ ≡ getD t 1 0 → d₂ ≡ getD t 2 0 → d₃ ≡ getD t 3 0 → d₄ ≡ getD t 4 0 → d₅ ≡ getD t 5 0 → d₆ ≡ getD t 6 0 → d₇ ≡ getD t 7 0
+    → d₀ * 0x100_0000_0000_0000 + d₁ * 0x1_0000_0000_0000 + d₂ * 0x100_0000_0000 + d₃ * 0x1_0000_0000 + d₄ * 0x100_0000 + d₅ * 0x1_0000 + d₆ * 0x100 + d₇ ≡ pack t
+pack-eight t d₀ d₁ d₂ d₃ d₄ d₅ d₆ d₇ h₀ h₁ h₂ h₃ h₄ h₅ h₆ h₇ = rw (h₀, h₁, h₂, h₃, h₄, h₅, h₆, h₇) (sym (eight-digits t))
+
+-- ---- made ready for the store
+
+pub length-case : (up : Bool) (t : List ℕ) → length (inCase up t) ≡ length t
+length-case true t = length-map t raise
+length-case false t = refl
+
+module _ (up : Bool) (t : List ℕ) where
+  pub fit-good : (w : ℕ) → length t ≤ 8 → w ≡ pack (inCase up t) → Stored w ≡ fit (inCase up t)
+  fit-good w h p = rw (length-case up t, le-leb (length t) 8 h, p)
+
+  pub fit-long : 8 < length t → Bad ≡ fit (inCase up t)
+  fit-long h = rw (length-case up t, lt-leb (length t) 8 h)
+
+any-byte : (t : List ℕ) → not (isEmpty t) ≡ ltb 0 (length t)
+any-byte [] = refl
+any-byte (b ∷ bs) = sym (lt-ltb 0 (suc (length bs)) (omega arith))
+
+module _ (t u : List ℕ) (e : u ≡ trim t) where
+  module _ (v b : Bool) (q : b ≡ (v && ltb 0 (length u))) where
+    chain-is : v ≡ all plain u → chainId t ≡ cond b (fit u) Bad
+    unfolding chainId
+    chain-is p = rw (← e, any-byte u, q, p)
+
+    pub chain-good : (r : Prepared) → v ≡ all plain u → b ≡ true → r ≡ fit u → r ≡ chainId t
+    chain-good r p h s = s ∙ sym (chain-is p ∙ rw h)
+
+    pub chain-bad : v ≡ all plain u → b ≡ false → Bad ≡ chainId t
+    chain-bad p h = sym (chain-is p ∙ rw h)
+
+    raised-is : (other : Prepared) → v ≡ all plain t → raised t other ≡ cond b (fit (map raise u)) other
+    unfolding raised
+    raised-is other p = rw (← e, any-byte u, q, p)
+
+    pub raised-good : (other r : Prepared) → v ≡ all plain t → b ≡ true → r ≡ fit (map raise u) → r ≡ raised t other
+    raised-good other r p h s = s ∙ sym (raised-is other p ∙ rw h)
+
+    pub raised-other : (other : Prepared) → v ≡ all plain t → b ≡ false → other ≡ raised t other
+    raised-other other p h = sym (raised-is other p ∙ rw h)
+
+  pub atom-good : (v : Bool) (r : Prepared) → v ≡ all plain u → v ≡ true → r ≡ fit (map raise u) → r ≡ atomName t
+  unfolding atomName
+  atom-good v r p h s = s ∙ rw (← e, ← p, h)
+
+  pub atom-bad : (v : Bool) → v ≡ all plain u → v ≡ false → Bad ≡ atomName t
+  unfolding atomName
+  atom-bad v p h = rw (← e, ← p, h)
+
+module _ (flag : ℕ) (p : Prepared) where
+  pub flag-absent : flag < 1 → Absent ≡ byFlag flag p
+  flag-absent h = let o : flag ≡ 0 = omega arith in rw o
+
+  pub flag-given : (r : Prepared) → 1 ≤ flag → flag ≤ 1 → r ≡ p → r ≡ byFlag flag p
+  flag-given r h k e = let o : flag ≡ 1 = omega arith in rw (o, e)
+
+pub flag-bad : (flag : ℕ) (p : Prepared) → 1 < flag → Bad ≡ byFlag flag p
+flag-bad zero p h = absurd (omega arith)
+flag-bad (suc zero) p h = absurd (omega arith)
+flag-bad (suc (suc n)) p h = refl
+
+-- ---- texts as given
+
+-- a text that ends in no zero byte
+closed : List ℕ → Bool
+closed [] = true
+closed (b ∷ []) = not (eqb b 0)
+closed (b ∷ c ∷ cs) = closed (c ∷ cs)
+
+closed-last : (t : List ℕ) → 1 ≤ length t → closed t ≡ not (eqb (getD t (length t - 1) 0) 0)
+unfolding closed
+closed-last [] h = absurd (omega arith)
+closed-last (b ∷ []) h = refl
+closed-last (b ∷ c ∷ cs) h =
+    let e : length (b ∷ c ∷ cs) - 1 ≡ suc (length (c ∷ cs) - 1) = omega arith in
+    rw e (closed-last (c ∷ cs) (omega arith))
+
+closed-before : (b : ℕ) (t : List ℕ) → closed t ≡ true → closed (beforeZeros b t) ≡ true
+unfolding closed
+closed-before b [] h = go (eqb b 0) refl
+  where
+    go : (z : Bool) → eqb b 0 ≡ z → closed (cond (z && true) [] (b ∷ [])) ≡ true
+    go true e = refl
+    go false e = rw e
+closed-before b (c ∷ cs) h = rw (and-false (eqb b 0)) h
+
+closed-withoutZeros : (t : List ℕ) → closed (withoutZeros t) ≡ true
+unfolding withoutZeros closed
+closed-withoutZeros [] = refl
+closed-withoutZeros (b ∷ bs) = closed-before b (withoutZeros bs) (closed-withoutZeros bs)
+
+withoutZeros-closed : (t : List ℕ) → closed t ≡ true → withoutZeros t ≡ t
+unfolding withoutZeros closed
+withoutZeros-closed [] h = refl
+withoutZeros-closed (b ∷ []) h = go (eqb b 0) h
+  where
+    go : (z : Bool) → not z ≡ true → cond (z && true) [] (b ∷ []) ≡ b ∷ []
+    go true e = absurd (false≢true e)
+    go false e = refl
+withoutZeros-closed (b ∷ c ∷ cs) h = rw (withoutZeros-closed (c ∷ cs) h, and-false (eqb b 0))
+
+abbrev Bytes : List ℕ → Type 0
+Bytes t = (i : ℕ) → getD t i 0 < 256
+
+packed-small : (n : ℕ) (t : List ℕ) → Bytes t → packed n t < 256 ^ n
+unfolding packed
+packed-small n [] h = one-le-pow n 256 (omega arith)
+packed-small zero (b ∷ bs) h = omega arith
+packed-small (suc n) (b ∷ bs) h =
+    let i = packed-small n bs (λ j. h (suc j)) in
+    let m : b * 256 ^ n ≤ 255 * 256 ^ n = mul-le-mul-right (256 ^ n) (omega (arith, h 0)) in
+    let e : 256 ^ suc n ≡ 256 ^ n * 256 = pow-suc 256 n in
+    omega arith
+
+pub text-zero : (n : ℕ) → withoutZeros (unpacked n 0) ≡ []
+unfolding withoutZeros unpacked
+text-zero zero = refl
+text-zero (suc n) = rw (zero-div, zero-mod, text-zero n)
+
+-- any bytes, packed and unpacked, lose the zeros at their end
+text-packed : (n : ℕ) (t : List ℕ) → length t ≤ n → Bytes t → withoutZeros (unpacked n (packed n t)) ≡ withoutZeros t
+unfolding withoutZeros unpacked packed
+text-packed n [] l h = text-zero n
+text-packed zero (b ∷ bs) l h = absurd (omega arith)
+text-packed (suc n) (b ∷ bs) l h =
+    let i = packed-small n bs (λ j. h (suc j)) in
+    let r = text-packed n bs (omega arith) (λ j. h (suc j)) in
+    let d : (b * 256 ^ n + packed n bs) / 256 ^ n ≡ b = mul-add-div-right (omega arith) b (packed n bs) ∙ rw (div-eq-of-lt i) (omega arith) in
+    let m : (b * 256 ^ n + packed n bs) % 256 ^ n ≡ packed n bs = mul-add-mod-self-right b (256 ^ n) (packed n bs) ∙ mod-eq-of-lt i in
+    rw (d, m, r)
+
+no-match : (t : List ℕ) (w : ℕ) → (t ≡ textOf w → ⊥) → false ≡ matches t w
+unfolding matches
+no-match t w n = both-ways false (not (isEmpty t) && same t (textOf w)) (λ e. absurd (false≢true e))
+    (λ e. absurd (n (same-true t (textOf w) (and-both (not (isEmpty t)) (same t (textOf w)) e .1))))
+
+module _ (t : List ℕ) (w : ℕ) where
+  pub match-none : length t < 1 → false ≡ matches t w
+  unfolding matches
+  match-none h = rw (any-byte t, le-ltb 0 (length t) (omega arith))
+
+  pub match-long : 8 < length t → false ≡ matches t w
+  match-long h = no-match t w (λ e. omega (arith, length-textOf w, ap length e))
+
+  pub match-zero : 1 ≤ length t → getD t (length t - 1) 0 ≡ 0 → false ≡ matches t w
+  unfolding textOf
+  match-zero h z =
+      let k : closed t ≡ false = closed-last t h ∙ rw (eq-eqb (getD t (length t - 1) 0) 0 z) in
+      no-match t w (λ e. false≢true (sym k ∙ ap closed e ∙ closed-withoutZeros (unpacked 8 w)))
+
+  pub match-word : (p : ℕ) → Bytes t → 1 ≤ length t → length t ≤ 8 → (getD t (length t - 1) 0 ≡ 0 → ⊥) → p ≡ pack t → eqb p w ≡ matches t w
+  unfolding matches textOf
+  match-word p b h l z e =
+      let k : closed t ≡ true = closed-last t h ∙ rw (ne-eqb (getD t (length t - 1) 0) 0 z) in
+      let o : textOf (pack t) ≡ t = text-packed 8 t l b ∙ withoutZeros-closed t k in
+      rw (any-byte t, lt-ltb 0 (length t) h, e) (both-ways (eqb (pack t) w) (same t (textOf w))
+      (λ q. rw (← eqb-true (pack t) w q, o) (same-refl t))
+      (λ q. eq-eqb (pack t) w (ap pack (same-true t (textOf w) q) ∙ pack-textOf w)))
+
+  module _ (flag : ℕ) where
+    pub optional-absent : flag ≡ 0 → eqb w 0 ≡ matchesOptional (record { flag = flag; text = t }) w
+    optional-absent h = rw (eq-eqb flag 0 h)
+
+    pub optional-given : (r : Bool) → (flag ≡ 0 → ⊥) → r ≡ matches t w → r ≡ matchesOptional (record { flag = flag; text = t }) w
+    optional-given r h e = rw (ne-eqb flag 0 h) e

@@ -1,0 +1,547 @@
+-- Laws of stored words: what the test by numbers says of a word's text, and what each rule stores again. Assumes nothing.
+use Prim.Native.Nat.{ℕ, zero, suc, _+_, _-_, _*_, _/_, _%_, _^_, _≤_, _<_}
+use mathlib.Core.Path.{_≡_, refl, sym, ap, _∙_}
+use mathlib.Core.Bool.{Bool, true, false, cond, not, _&&_, _||_, false≢true, and-false, and-true, and-assoc}
+use mathlib.Core.List.{List, [], _∷_, _++_, map, reverse, reverse-cons, reverse-reverse}
+use native.Mathlib.Nat.{add-zero, zero-add, zero-mul, one-le-pow, suc-mul, mul-le-mul-right, div-add-mod', mod-lt, zero-mod}
+use native.Mathlib.Omega.{arith}
+use lib.ListN.{length, length-append}
+use lib.Dec.{leb, ltb, eqb}
+use borrow.Author.Tests.{eq-eqb, ne-eqb, eqb-true, eqb-false, le-leb, lt-leb, lt-ltb, le-ltb, leb-true, leb-false}
+use Rattle.machine.specs.Lists.{all, isEmpty}
+use Rattle.machine.specs.Text.{packed, pack, unpacked, beforeZeros, withoutZeros, textOf, plain, blank, raise, trimStart, trim, fit, chainId, raised, insertionCode, conformerName, alternativeLocation, atomName, stores, storedBy, absentOr, packedText}
+use Rattle.machine.specs.declared.Prepared.{Prepared}
+use Rattle.machine.specs.declared.Prepared.the-variants.{Stored, Absent, Bad}
+use Rattle.laws.specs.Lists.{and-both}
+use Rattle.laws.specs.Packing.{pack-textOf, textOf-pack, length-textOf, both-ways}
+use Rattle.helper.specs.Tidy.{inCase, tidyByte, tidy}
+use Rattle.helper.proofs.Laws.{length-case}
+
+-- ---- the code's tests, unfolded
+
+module _ (low : ℕ) (up : Bool) where
+  tidy-zero : (n : ℕ) → tidy low up n 0 ≡ true
+  unfolding tidy tidyByte
+  tidy-zero zero = refl
+  tidy-zero (suc n) = rw (zero-mod (256 ^ n)) (tidy-zero n)
+
+  -- `tidy_half`: four bytes, joined from the last
+  pub tidy-four : (w : ℕ) (a b c d x y z : Bool) → a ≡ tidyByte low up w 0x100_0000 → b ≡ tidyByte low up (w % 0x100_0000) 0x1_0000
+      → c ≡ tidyByte low up (w % 0x100_0000 % 0x1_0000) 0x100 → d ≡ tidyByte low up (w % 0x100_0000 % 0x1_0000 % 0x100) 1
+      → x ≡ (c && d) → y ≡ (b && x) → z ≡ (a && y) → z ≡ tidy low up 4 w
+  unfolding tidy
+  tidy-four w a b c d x y z p q r s f g h = rw (h, g, f, s, r, q, p, and-true)
+
+  -- `tidy_word`: the first four bytes, joined so, and the word that is left
+  module _ (w : ℕ) (a b c d x y z : Bool)
+      (p : a ≡ tidyByte low up w 0x100_0000_0000_0000)
+      (q : b ≡ tidyByte low up (w % 0x100_0000_0000_0000) 0x1_0000_0000_0000)
+      (r : c ≡ tidyByte low up (w % 0x100_0000_0000_0000 % 0x1_0000_0000_0000) 0x100_0000_0000)
+      (s : d ≡ tidyByte low up (w % 0x100_0000_0000_0000 % 0x1_0000_0000_0000 % 0x100_0000_0000) 0x1_0000_0000)
+      (f : x ≡ (c && d)) (g : y ≡ (b && x)) (h : z ≡ (a && y)) where
+    pub tidy-more : (k m : Bool) → k ≡ tidy low up 4 (w % 0x100_0000_0000_0000 % 0x1_0000_0000_0000 % 0x100_0000_0000 % 0x1_0000_0000) → m ≡ (z && k) → m ≡ tidy low up 8 w
+    unfolding tidy
+    tidy-more k m e j = rw (j, e, h, g, f, s, r, q, p) (simp and-assoc)
+
+    pub tidy-end : w % 0x100_0000_0000_0000 % 0x1_0000_0000_0000 % 0x100_0000_0000 % 0x1_0000_0000 ≡ 0 → z ≡ tidy low up 8 w
+    tidy-end e = tidy-more true z (sym (rw e (tidy-zero 4))) (sym (and-true z))
+
+-- ---- numbers by their first digit
+
+leb-is : (x y k b : ℕ) → (k ≤ b → x ≤ y) → (b < k → y < x) → leb x y ≡ leb k b
+leb-is x y k b f g = go (leb k b) refl
+  where
+    go : (a : Bool) → leb k b ≡ a → leb x y ≡ a
+    go true e = le-leb x y (f (leb-true k b e))
+    go false e = lt-leb x y (g (leb-false k b e))
+
+ltb-is : (x y b k : ℕ) → (b ≤ k → x < y) → (k < b → y ≤ x) → ltb x y ≡ leb b k
+ltb-is x y b k f g = go (leb b k) refl
+  where
+    go : (a : Bool) → leb b k ≡ a → ltb x y ≡ a
+    go true e = lt-ltb x y (f (leb-true b k e))
+    go false e = le-ltb x y (g (leb-false b k e))
+
+module _ (u b q : ℕ) (h : q < u) where
+  below : (k : ℕ) → ltb (b * u + q) (suc k * u) ≡ leb b k
+  below k = ltb-is (b * u + q) (suc k * u) b k
+      (λ l. let m : b * u ≤ k * u = mul-le-mul-right u l in omega (arith, suc-mul k u))
+      (λ l. let m : suc k * u ≤ b * u = mul-le-mul-right u l in omega arith)
+
+  reaches : (k : ℕ) → leb (k * u) (b * u + q) ≡ leb k b
+  reaches k = leb-is (k * u) (b * u + q) k b
+      (λ l. let m : k * u ≤ b * u = mul-le-mul-right u l in omega arith)
+      (λ l. let m : suc b * u ≤ k * u = mul-le-mul-right u l in omega (arith, suc-mul b u))
+
+  -- a byte that nothing follows
+  reaches-last : (low : ℕ) → low ≤ 1 → q ≡ 0 → leb (32 * u + low) (b * u + q) ≡ leb (32 + low) b
+  reaches-last zero l z = rw (add-zero (32 * u)) (reaches 32)
+  reaches-last (suc zero) l z = leb-is (32 * u + 1) (b * u + q) 33 b
+      (λ k. let m : 33 * u ≤ b * u = mul-le-mul-right u k in omega arith)
+      (λ k. let m : b * u ≤ 32 * u = mul-le-mul-right u (omega arith) in omega arith)
+  reaches-last (suc (suc n)) l z = absurd (omega arith)
+
+  -- a byte that another follows
+  reaches-more : (low : ℕ) → low ≤ 1 → (q ≡ 0 → ⊥) → leb (32 * u + low) (b * u + q) ≡ leb 32 b
+  reaches-more low l z = leb-is (32 * u + low) (b * u + q) 32 b
+      (λ k. let m : 32 * u ≤ b * u = mul-le-mul-right u k in omega arith)
+      (λ k. let m : suc b * u ≤ 32 * u = mul-le-mul-right u k in omega (arith, suc-mul b u))
+
+  none-left : eqb (b * u + q) 0 ≡ (eqb b 0 && eqb q 0)
+  none-left = go (eqb b 0) (eqb q 0) refl refl
+    where
+      go : (c d : Bool) → eqb b 0 ≡ c → eqb q 0 ≡ d → eqb (b * u + q) 0 ≡ (c && d)
+      go true d e f = rw (eqb-true b 0 e, zero-mul, zero-add) f
+      go false d e f =
+          let n = eqb-false b 0 e in
+          let m : 1 * u ≤ b * u = mul-le-mul-right u (omega arith) in
+          ne-eqb (b * u + q) 0 (omega arith)
+
+-- ---- the test by numbers, as a test of the text
+
+abbrev good : Bool → ℕ → ℕ → Bool
+good up from b = (leb from b && leb b 126) && not (up && (leb 97 b && leb b 122))
+
+-- each byte is 32..126 and not to be raised; the last is at least 32 + low
+ink : ℕ → Bool → List ℕ → Bool
+ink low up [] = true
+ink low up (b ∷ bs) = good up (32 + cond (isEmpty bs) low 0) b && ink low up bs
+
+empty-before : (b : ℕ) (t : List ℕ) → isEmpty (beforeZeros b t) ≡ (eqb b 0 && isEmpty t)
+empty-before b t = go (eqb b 0 && isEmpty t)
+  where
+    go : (a : Bool) → isEmpty (cond a [] (b ∷ t)) ≡ a
+    go true = refl
+    go false = refl
+
+-- no text is left of 0 alone
+empty-text : (n r : ℕ) → r < 256 ^ n → isEmpty (withoutZeros (unpacked n r)) ≡ eqb r 0
+unfolding withoutZeros unpacked
+empty-text zero r h = sym (eq-eqb r 0 (omega arith))
+empty-text (suc n) r h =
+    let u = 256 ^ n in
+    let p : 0 < u = one-le-pow n 256 (omega arith) in
+    let l : r % u < u = mod-lt r p in
+    empty-before (r / u) (withoutZeros (unpacked n (r % u)))
+    ∙ rw (empty-text n (r % u) l) (sym (none-left u (r / u) (r % u) l) ∙ rw (div-add-mod' r u))
+
+module _ (low : ℕ) (up : Bool) (l : low ≤ 1) where
+  byte-text : (u b q : ℕ) (t : List ℕ) → q < u → isEmpty t ≡ eqb q 0 → (tidyByte low up (b * u + q) u && ink low up t) ≡ ink low up (beforeZeros b t)
+  unfolding tidyByte ink
+  byte-text u b q [] h e =
+      let z : q ≡ 0 = eqb-true q 0 (sym e) in
+      rw (none-left u b q h, ← e, reaches-last u b q h low l z, below u b q h 126, reaches u b q h 97, below u b q h 122) (go (eqb b 0))
+    where
+      go : (a : Bool) → (((a && true) || good up (32 + low) b) && true) ≡ ink low up (cond (a && true) [] (b ∷ []))
+      go true = refl
+      go false = refl
+  byte-text u b q (c ∷ cs) h e =
+      let z = eqb-false q 0 (sym e) in
+      rw (none-left u b q h, ← e, and-false (eqb b 0), reaches-more u b q h low l z, below u b q h 126, reaches u b q h 97, below u b q h 122)
+
+  -- the test of n bytes by numbers is the test of their text
+  tidy-text : (n r : ℕ) → tidy low up n r ≡ ink low up (withoutZeros (unpacked n r))
+  unfolding tidy withoutZeros unpacked ink
+  tidy-text zero r = refl
+  tidy-text (suc n) r =
+      let u = 256 ^ n in
+      let p : 0 < u = one-le-pow n 256 (omega arith) in
+      let h : r % u < u = mod-lt r p in
+      rw (tidy-text n (r % u)) (ap (λ (x : ℕ). tidyByte low up x u && ink low up (withoutZeros (unpacked n (r % u)))) (sym (div-add-mod' r u))
+      ∙ byte-text u (r / u) (r % u) (withoutZeros (unpacked n (r % u))) h (empty-text n (r % u) h))
+
+ink-plain : (t : List ℕ) → ink 0 false t ≡ all plain t
+unfolding ink
+ink-plain [] = refl
+ink-plain (b ∷ bs) = rw (ink-plain bs) (go (isEmpty bs))
+  where
+    go : (a : Bool) → (((leb (32 + cond a 0 0) b && leb b 126) && true) && all plain bs) ≡ (plain b && all plain bs)
+    go true = rw (and-true (plain b))
+    go false = rw (and-true (plain b))
+
+pub packed-text : (r : Bool) (w : ℕ) → r ≡ tidy 0 false 8 w → r ≡ packedText w
+unfolding packedText textOf
+packed-text r w e = e ∙ tidy-text 0 false (omega arith) 8 w ∙ ink-plain (withoutZeros (unpacked 8 w))
+
+-- ---- what the rules keep as it is
+
+begins : List ℕ → Bool
+begins [] = true
+begins (b ∷ bs) = not (blank b)
+
+begins-append : (s t : List ℕ) → isEmpty s ≡ false → begins (s ++ t) ≡ begins s
+unfolding begins
+begins-append [] t h = absurd (false≢true (sym h))
+begins-append (b ∷ bs) t h = refl
+
+trimStart-begins : (t : List ℕ) → begins t ≡ true → trimStart t ≡ t
+unfolding trimStart begins
+trimStart-begins [] h = refl
+trimStart-begins (b ∷ bs) h = go (blank b) h
+  where
+    go : (a : Bool) → not a ≡ true → cond a (trimStart bs) (b ∷ bs) ≡ b ∷ bs
+    go true e = absurd (false≢true e)
+    go false e = refl
+
+trimStart-short : (t : List ℕ) → length (trimStart t) ≤ length t
+unfolding trimStart
+trimStart-short [] = omega arith
+trimStart-short (b ∷ bs) = go (blank b) (trimStart-short bs)
+  where
+    go : (a : Bool) → length (trimStart bs) ≤ length bs → length (cond a (trimStart bs) (b ∷ bs)) ≤ length (b ∷ bs)
+    go true i = omega arith
+    go false i = omega arith
+
+-- where nothing is trimmed, there is no blank
+begins-long : (t : List ℕ) → length t ≤ length (trimStart t) → begins t ≡ true
+unfolding trimStart begins
+begins-long [] h = refl
+begins-long (b ∷ bs) h = go (blank b) h (trimStart-short bs)
+  where
+    go : (a : Bool) → length (b ∷ bs) ≤ length (cond a (trimStart bs) (b ∷ bs)) → length (trimStart bs) ≤ length bs → not a ≡ true
+    go true l i = absurd (omega arith)
+    go false l i = refl
+
+length-reverse : (t : List ℕ) → length (reverse t) ≡ length t
+length-reverse [] = refl
+length-reverse (b ∷ bs) = rw (reverse-cons b bs, length-append (reverse bs) (b ∷ []), length-reverse bs) (omega arith)
+
+trim-begins : (t : List ℕ) → begins t ≡ true → begins (reverse t) ≡ true → trim t ≡ t
+unfolding trim
+trim-begins t p q = rw (trimStart-begins t p, trimStart-begins (reverse t) q) (reverse-reverse t)
+
+-- a text that trimming leaves as long as it is
+record Trimmed (t : List ℕ) : Type 0 where
+  starts : begins t ≡ true
+  ends : begins (reverse t) ≡ true
+
+length-trimmed : (t : List ℕ) → length t ≤ length (trim t) → Trimmed t
+unfolding trim
+length-trimmed t h =
+    let s = trimStart t in
+    let a = trimStart-short t in
+    let b = trimStart-short (reverse s) in
+    let c = length-reverse s in
+    let d = length-reverse (trimStart (reverse s)) in
+    let p : begins t ≡ true = begins-long t (omega arith) in
+    let e : s ≡ t = trimStart-begins t p in
+    record { starts = p; ends = rw (← e) (begins-long (reverse s) (omega arith)) }
+
+trim-short : (t : List ℕ) → length (trim t) ≤ length t
+unfolding trim
+trim-short t =
+    let s = trimStart t in
+    let a = trimStart-short t in
+    let b = trimStart-short (reverse s) in
+    let c = length-reverse s in
+    let d = length-reverse (trimStart (reverse s)) in
+    omega arith
+
+all-append : (s t : List ℕ) → all plain s ≡ true → all plain t ≡ true → all plain (s ++ t) ≡ true
+all-append [] t p q = q
+all-append (b ∷ bs) t p q = let r = and-both (plain b) (all plain bs) p in rw (r .0) (all-append bs t (r .1) q)
+
+all-reverse : (t : List ℕ) → all plain t ≡ true → all plain (reverse t) ≡ true
+all-reverse [] h = refl
+all-reverse (b ∷ bs) h =
+    let p = and-both (plain b) (all plain bs) h in
+    rw (reverse-cons b bs) (all-append (reverse bs) (b ∷ []) (all-reverse bs (p .1)) (rw (p .0)))
+
+all-trimStart : (t : List ℕ) → all plain t ≡ true → all plain (trimStart t) ≡ true
+unfolding trimStart
+all-trimStart [] h = refl
+all-trimStart (b ∷ bs) h = go (blank b) (all-trimStart bs (and-both (plain b) (all plain bs) h .1))
+  where
+    go : (a : Bool) → all plain (trimStart bs) ≡ true → all plain (cond a (trimStart bs) (b ∷ bs)) ≡ true
+    go true i = i
+    go false i = h
+
+all-trim : (t : List ℕ) → all plain t ≡ true → all plain (trim t) ≡ true
+unfolding trim
+all-trim t h = all-reverse (trimStart (reverse (trimStart t))) (all-trimStart (reverse (trimStart t)) (all-reverse (trimStart t) (all-trimStart t h)))
+
+plain-raise : (b : ℕ) → plain b ≡ true → plain (raise b) ≡ true
+plain-raise b h = go (leb 97 b && leb b 122) refl
+  where
+    go : (a : Bool) → leb 97 b && leb b 122 ≡ a → plain (cond a (b - 32) b) ≡ true
+    go true e =
+        let p = and-both (leb 97 b) (leb b 122) e in
+        let l = leb-true 97 b (p .0) in
+        let m = leb-true b 122 (p .1) in
+        rw (le-leb 32 (b - 32) (omega arith), le-leb (b - 32) 126 (omega arith))
+    go false e = h
+
+all-case : (up : Bool) (t : List ℕ) → all plain t ≡ true → all plain (inCase up t) ≡ true
+all-case false t h = h
+all-case true [] h = refl
+all-case true (b ∷ bs) h = let p = and-both (plain b) (all plain bs) h in rw (plain-raise b (p .0)) (all-case true bs (p .1))
+
+-- a text that the rules keep: plain, no blank at its end, and raised where it has to be; and no blank at its start
+record Inked (up : Bool) (t : List ℕ) : Type 0 where
+  plains : all plain t ≡ true
+  ends : begins (reverse t) ≡ true
+  case : inCase up t ≡ t
+
+record Kept (up : Bool) (t : List ℕ) : Type 0 where
+  inked : Inked up t
+  starts : begins t ≡ true
+
+-- what is stored again of a word's text is kept
+fit-kept : (up : Bool) (w : ℕ) → all plain (trim (textOf w)) ≡ true → fit (inCase up (trim (textOf w))) ≡ Stored w → Kept up (textOf w)
+fit-kept up w p e =
+    let t = textOf w in
+    let s = inCase up (trim t) in
+    let c = length-case up (trim t) in
+    let l : length s ≤ 8 = omega (arith, trim-short t, length-textOf w) in
+    let f : Stored (pack s) ≡ Stored w = rw (le-leb (length s) 8 l) at e in
+    let q : pack s ≡ w = cc in
+    let r : t ≡ s = ap textOf (sym q) ∙ textOf-pack s l (all-case up (trim t) p) in
+    let m : Trimmed t = length-trimmed t (omega (arith, ap length r)) in
+    let o : trim t ≡ t = trim-begins t (m .starts) (m .ends) in
+    record { inked = record { plains = rw o at p; ends = m .ends; case = rw o at (sym r) }; starts = m .starts }
+
+kept-trim : (up : Bool) (t : List ℕ) → Kept up t → trim t ≡ t
+kept-trim up t k = trim-begins t (k .starts) (k .inked .ends)
+
+kept-fit : (up : Bool) (w : ℕ) → Kept up (textOf w) → fit (inCase up (trim (textOf w))) ≡ Stored w
+kept-fit up w k = rw (kept-trim up (textOf w) k, k .inked .case, le-leb (length (textOf w)) 8 (length-textOf w), pack-textOf w)
+
+-- ---- the test says that a text is kept
+
+not-empty : (t : List ℕ) (b : ℕ) → isEmpty (t ++ (b ∷ [])) ≡ false
+not-empty [] b = refl
+not-empty (c ∷ cs) b = refl
+
+ends-cons : (b : ℕ) (bs : List ℕ) → begins (reverse (b ∷ bs)) ≡ cond (isEmpty bs) (not (blank b)) (begins (reverse bs))
+unfolding begins
+ends-cons b [] = refl
+ends-cons b (c ∷ cs) = rw (reverse-cons b (c ∷ cs)) (begins-append (reverse (c ∷ cs)) (b ∷ []) (rw (reverse-cons c cs) (not-empty (reverse cs) c)))
+
+record Byte (up : Bool) (from b : ℕ) : Type 0 where
+  low : from ≤ b
+  high : b ≤ 126
+  case : not (up && (leb 97 b && leb b 122)) ≡ true
+
+good-byte : (up : Bool) (from b : ℕ) → good up from b ≡ true → Byte up from b
+good-byte up from b h =
+    let p = and-both (leb from b && leb b 126) (not (up && (leb 97 b && leb b 122))) h in
+    let q = and-both (leb from b) (leb b 126) (p .0) in
+    record { low = leb-true from b (q .0); high = leb-true b 126 (q .1); case = p .1 }
+
+byte-good : (up : Bool) (from b : ℕ) → Byte up from b → good up from b ≡ true
+byte-good up from b h = rw (le-leb from b (h .low), le-leb b 126 (h .high), h .case)
+
+-- a byte's case, and the text's
+case-cons : (up : Bool) (b : ℕ) (bs : List ℕ) → not (up && (leb 97 b && leb b 122)) ≡ true → inCase up bs ≡ bs → inCase up (b ∷ bs) ≡ b ∷ bs
+case-cons false b bs h e = refl
+case-cons true b bs h e = rw e (go (leb 97 b && leb b 122) h)
+  where
+    go : (a : Bool) → not a ≡ true → cond a (b - 32) b ∷ bs ≡ b ∷ bs
+    go true h = absurd (false≢true h)
+    go false h = refl
+
+case-head : (up : Bool) (b : ℕ) (bs : List ℕ) → inCase up (b ∷ bs) ≡ b ∷ bs → not (up && (leb 97 b && leb b 122)) ≡ true
+case-head false b bs e = refl
+case-head true b bs e = go (leb 97 b && leb b 122) refl (cc)
+  where
+    go : (a : Bool) → leb 97 b && leb b 122 ≡ a → cond a (b - 32) b ≡ b → not a ≡ true
+    go true h f = let l = leb-true 97 b (and-both (leb 97 b) (leb b 122) h .0) in absurd (omega arith)
+    go false h f = refl
+
+case-tail : (up : Bool) (b : ℕ) (bs : List ℕ) → inCase up (b ∷ bs) ≡ b ∷ bs → inCase up bs ≡ bs
+case-tail false b bs e = refl
+case-tail true b bs e = cc
+
+no-blank : (b : ℕ) → 33 ≤ b → not (blank b) ≡ true
+no-blank b h = rw (lt-leb b 13 (omega arith), ne-eqb b 32 (omega arith), and-false)
+
+plain-ink : (b : ℕ) → plain b ≡ true → not (blank b) ≡ true → 33 ≤ b
+plain-ink b p q =
+    let l = leb-true 32 b (and-both (leb 32 b) (leb b 126) p .0) in
+    let n : b ≡ 32 → ⊥ = λ e. false≢true (rw e at q) in
+    omega arith
+
+ink-inked : (up : Bool) (t : List ℕ) → ink 1 up t ≡ true → Inked up t
+unfolding ink begins
+ink-inked up [] h = record { plains = refl; ends = refl; case = none up }
+  where
+    none : (up : Bool) → inCase up [] ≡ []
+    none true = refl
+    none false = refl
+ink-inked up (b ∷ bs) h =
+    let p = and-both (good up (32 + cond (isEmpty bs) 1 0) b) (ink 1 up bs) h in
+    let g = good-byte up (32 + cond (isEmpty bs) 1 0) b (p .0) in
+    let i = ink-inked up bs (p .1) in
+    record {
+      plains = rw (plain-from (isEmpty bs) (g .low) (g .high)) (i .plains);
+      ends = ends-cons b bs ∙ end (isEmpty bs) (g .low) (i .ends);
+      case = case-cons up b bs (g .case) (i .case);
+    }
+  where
+    plain-from : (a : Bool) → 32 + cond a 1 0 ≤ b → b ≤ 126 → plain b ≡ true
+    plain-from true l m = rw (le-leb 32 b (omega arith), le-leb b 126 m)
+    plain-from false l m = rw (le-leb 32 b l, le-leb b 126 m)
+
+    end : (a : Bool) → 32 + cond a 1 0 ≤ b → begins (reverse bs) ≡ true → cond a (not (blank b)) (begins (reverse bs)) ≡ true
+    end true l e = no-blank b l
+    end false l e = e
+
+inked-ink : (up : Bool) (t : List ℕ) → Inked up t → ink 1 up t ≡ true
+unfolding ink begins
+inked-ink up [] k = refl
+inked-ink up (b ∷ []) k =
+    let p = and-both (plain b) true (k .plains) in
+    let h = leb-true b 126 (and-both (leb 32 b) (leb b 126) (p .0) .1) in
+    rw (byte-good up 33 b (record { low = plain-ink b (p .0) (sym (ends-cons b []) ∙ k .ends); high = h; case = case-head up b [] (k .case) }))
+inked-ink up (b ∷ c ∷ cs) k =
+    let p = and-both (plain b) (all plain (c ∷ cs)) (k .plains) in
+    let q = and-both (leb 32 b) (leb b 126) (p .0) in
+    let i = inked-ink up (c ∷ cs) (record { plains = p .1; ends = sym (ends-cons b (c ∷ cs)) ∙ k .ends; case = case-tail up b (c ∷ cs) (k .case) }) in
+    rw (byte-good up 32 b (record { low = leb-true 32 b (q .0); high = leb-true b 126 (q .1); case = case-head up b (c ∷ cs) (k .case) })) i
+
+-- a text whose first byte is 33 or more isn't empty and starts with no blank
+record Opened (t : List ℕ) : Type 0 where
+  some : isEmpty t ≡ false
+  starts : begins t ≡ true
+
+byte-opened : (b : ℕ) (t : List ℕ) → 33 ≤ b → Opened (beforeZeros b t)
+unfolding begins
+byte-opened b t h = rw (ne-eqb b 0 (omega arith)) (record { some = refl; starts = no-blank b h })
+
+opened-byte : (b : ℕ) (t : List ℕ) → Opened (beforeZeros b t) → all plain (beforeZeros b t) ≡ true → 33 ≤ b
+unfolding begins
+opened-byte b t o p = go (eqb b 0 && isEmpty t) (o .some) (o .starts) p
+  where
+    go : (a : Bool) → isEmpty (cond a [] (b ∷ t)) ≡ false → begins (cond a [] (b ∷ t)) ≡ true → all plain (cond a [] (b ∷ t)) ≡ true → 33 ≤ b
+    go true n s p = absurd (false≢true (sym n))
+    go false n s p = plain-ink b (and-both (plain b) (all plain t) p .0) s
+
+-- the code's test of a stored word
+abbrev test : Bool → ℕ → Bool
+test up w = leb 0x2100_0000_0000_0000 w && tidy 1 up 8 w
+
+record Passes (up : Bool) (w : ℕ) : Type 0 where
+  some : isEmpty (textOf w) ≡ false
+  kept : Kept up (textOf w)
+
+test-passes : (up : Bool) (w : ℕ) → test up w ≡ true → Passes up w
+unfolding textOf withoutZeros unpacked
+test-passes up w h =
+    let p = and-both (leb 0x2100_0000_0000_0000 w) (tidy 1 up 8 w) h in
+    let l = leb-true 0x2100_0000_0000_0000 w (p .0) in
+    let o : Opened (textOf w) = byte-opened (w / 256 ^ 7) (withoutZeros (unpacked 7 (w % 256 ^ 7))) (omega arith) in
+    record { some = o .some; kept = record { inked = ink-inked up (textOf w) (sym (tidy-text 1 up (omega arith) 8 w) ∙ p .1); starts = o .starts } }
+
+passes-test : (up : Bool) (w : ℕ) → Passes up w → test up w ≡ true
+unfolding textOf withoutZeros unpacked
+passes-test up w k =
+    let o : Opened (textOf w) = record { some = k .some; starts = k .kept .starts } in
+    let l = opened-byte (w / 256 ^ 7) (withoutZeros (unpacked 7 (w % 256 ^ 7))) o (k .kept .inked .plains) in
+    rw (le-leb 0x2100_0000_0000_0000 w (omega arith)) (tidy-text 1 up (omega arith) 8 w ∙ inked-ink up (textOf w) (k .kept .inked))
+
+-- ---- the rules
+
+stores-true : (p : Prepared) (w : ℕ) → stores w p ≡ true → p ≡ Stored w
+stores-true (Stored v) w h = ap Stored (eqb-true v w h)
+stores-true Absent w h = absurd (false≢true h)
+stores-true Bad w h = absurd (false≢true h)
+
+storedBy-rule : (rule : List ℕ → Prepared) (w : ℕ) → storedBy rule w ≡ true → rule (textOf w) ≡ Stored w
+unfolding storedBy
+storedBy-rule rule w h = stores-true (rule (textOf w)) w h
+
+rule-storedBy : (rule : List ℕ → Prepared) (w : ℕ) → rule (textOf w) ≡ Stored w → storedBy rule w ≡ true
+unfolding storedBy
+rule-storedBy rule w e = rw e (eq-eqb w w refl)
+
+-- where a choice is stored, its first side was taken
+stored-where : (a : Bool) (p other : Prepared) (w : ℕ) → stores w other ≡ false → cond a p other ≡ Stored w → (a ≡ true) × (p ≡ Stored w)
+stored-where true p other w n e = (refl, e)
+stored-where false p other w n e = absurd (false≢true (sym n ∙ ap (stores w) e ∙ eq-eqb w w refl))
+
+not-false : (a : Bool) → not a ≡ true → a ≡ false
+not-false true h = absurd (false≢true h)
+not-false false h = refl
+
+chain-passes : (w : ℕ) → chainId (textOf w) ≡ Stored w → Passes false w
+unfolding chainId
+chain-passes w e =
+    let t = textOf w in
+    let p = stored-where (all plain (trim t) && not (isEmpty (trim t))) (fit (trim t)) Bad w refl e in
+    let q = and-both (all plain (trim t)) (not (isEmpty (trim t))) (p .0) in
+    let k = fit-kept false w (q .0) (p .1) in
+    record { some = rw (kept-trim false t k) at (not-false (isEmpty (trim t)) (q .1)); kept = k }
+
+passes-chain : (w : ℕ) → Passes false w → chainId (textOf w) ≡ Stored w
+unfolding chainId
+passes-chain w k = rw (kept-trim false (textOf w) (k .kept), k .kept .inked .plains, k .some) (rw (kept-trim false (textOf w) (k .kept)) at (kept-fit false w (k .kept)))
+
+pub chain-stored : (w : ℕ) (m k : Bool) → k ≡ tidy 1 false 8 w → m ≡ (leb 0x2100_0000_0000_0000 w && k) → m ≡ storedBy chainId w
+chain-stored w m k e f = f ∙ rw e (both-ways (test false w) (storedBy chainId w)
+    (λ h. rule-storedBy chainId w (passes-chain w (test-passes false w h)))
+    (λ h. passes-test false w (chain-passes w (storedBy-rule chainId w h))))
+
+-- for the three rules that share `raised`
+module _ (other : Prepared) (w : ℕ) (n : stores w other ≡ false) where
+  raised-passes : raised (textOf w) other ≡ Stored w → Passes true w
+  unfolding raised
+  raised-passes e =
+      let t = textOf w in
+      let p = stored-where (all plain t && not (isEmpty (trim t))) (fit (map raise (trim t))) other w n e in
+      let q = and-both (all plain t) (not (isEmpty (trim t))) (p .0) in
+      let k = fit-kept true w (all-trim t (q .0)) (p .1) in
+      record { some = rw (kept-trim true t k) at (not-false (isEmpty (trim t)) (q .1)); kept = k }
+
+  passes-raised : Passes true w → raised (textOf w) other ≡ Stored w
+  unfolding raised
+  passes-raised k = rw (kept-trim true (textOf w) (k .kept), k .kept .inked .plains, k .some) (rw (kept-trim true (textOf w) (k .kept)) at (kept-fit true w (k .kept)))
+
+  raised-stored : test true w ≡ storedBy (λ t. raised t other) w
+  raised-stored = both-ways (test true w) (storedBy (λ t. raised t other) w)
+      (λ h. rule-storedBy (λ t. raised t other) w (passes-raised (test-passes true w h)))
+      (λ h. passes-test true w (raised-passes (storedBy-rule (λ t. raised t other) w h)))
+
+pub name-stored : (w : ℕ) (m k : Bool) → k ≡ tidy 1 true 8 w → m ≡ (leb 0x2100_0000_0000_0000 w && k) → m ≡ storedBy conformerName w
+name-stored w m k e f = f ∙ rw e (raised-stored Bad w refl)
+
+pub code-absent : (w : ℕ) → w ≡ 0 → true ≡ absentOr insertionCode w
+code-absent w h = rw (eq-eqb w 0 h)
+
+pub code-stored : (w : ℕ) (r : Bool) → (w ≡ 0 → ⊥) → r ≡ storedBy conformerName w → r ≡ absentOr insertionCode w
+code-stored w r h e = rw (ne-eqb w 0 h) e
+
+pub location-stored : (w : ℕ) (r : Bool) → r ≡ absentOr insertionCode w → r ≡ absentOr alternativeLocation w
+location-stored w r e = e ∙ ap (λ (x : Bool). eqb w 0 || x) (sym (raised-stored Bad w refl) ∙ raised-stored Absent w refl)
+
+-- an atom's name may be empty
+passes-atom : (w : ℕ) → Passes true w → atomName (textOf w) ≡ Stored w
+unfolding atomName
+passes-atom w k = rw (kept-trim true (textOf w) (k .kept), k .kept .inked .plains) (rw (kept-trim true (textOf w) (k .kept)) at (kept-fit true w (k .kept)))
+
+atom-zero : storedBy atomName 0 ≡ true
+unfolding storedBy atomName textOf withoutZeros unpacked trim trimStart packed
+atom-zero = refl
+
+some-text : (w : ℕ) → (w ≡ 0 → ⊥) → isEmpty (textOf w) ≡ false
+unfolding packed
+some-text w n = go (textOf w) (pack-textOf w)
+  where
+    go : (t : List ℕ) → pack t ≡ w → isEmpty t ≡ false
+    go [] e = absurd (n (sym e))
+    go (b ∷ bs) e = refl
+
+atom-passes : (w : ℕ) → (w ≡ 0 → ⊥) → atomName (textOf w) ≡ Stored w → Passes true w
+unfolding atomName
+atom-passes w n e =
+    let t = textOf w in
+    let p = stored-where (all plain (trim t)) (fit (map raise (trim t))) Bad w refl e in
+    record { some = some-text w n; kept = fit-kept true w (p .0) (p .1) }
+
+pub atom-stored : (w : ℕ) (r : Bool) → r ≡ absentOr insertionCode w → r ≡ storedBy atomName w
+atom-stored w r e = e ∙ go (eqb w 0) refl
+  where
+    go : (a : Bool) → eqb w 0 ≡ a → (a || storedBy insertionCode w) ≡ storedBy atomName w
+    go true h = rw (eqb-true w 0 h) (sym atom-zero)
+    go false h = both-ways (storedBy insertionCode w) (storedBy atomName w)
+        (λ q. rule-storedBy atomName w (passes-atom w (raised-passes Bad w refl (storedBy-rule insertionCode w q))))
+        (λ q. rule-storedBy insertionCode w (passes-raised Bad w refl (atom-passes w (eqb-false w 0 h) (storedBy-rule atomName w q))))

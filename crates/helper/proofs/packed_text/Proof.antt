@@ -1,0 +1,14 @@
+-- `helper::packed_text` is `packedText`. Assumes nothing.
+use Rattle.helper.proofs.Stored.{packed-text}
+use borrow.Author.Needs.{needs}
+use Rattle.helper.proofs.packed_text.Statement.{statement}
+use Rattle.helper.proofs.packed_text.Tie as tie
+
+tidy-word-requires : tie.Need-tidy-word-requires
+tidy-word-requires c κs = search needs
+
+returns : tie.Need-returns
+returns c = search (needs, packed-text)
+
+pub packed-text-spec : {M : Type 1} → statement M
+packed-text-spec = tie.close (tie.spec tidy-word-requires returns)

@@ -1,0 +1,24 @@
+-- `helper::prepare_atom_name` is `atomName`. Assumes nothing.
+use Rattle.helper.proofs.Laws.{atom-good, atom-bad}
+use borrow.Author.Needs.{needs}
+use Rattle.helper.proofs.prepare_atom_name.Statement.{statement}
+use Rattle.helper.proofs.prepare_atom_name.Tie as tie
+
+trimmed-requires : tie.Need-trimmed-requires
+trimmed-requires c κs = search needs
+
+valid-text-requires : tie.Need-valid-text-requires
+valid-text-requires c κs = search needs
+
+fitted-requires : tie.Need-fitted-requires
+fitted-requires c κs = search needs
+
+returns : tie.Need-returns
+returns c = search (needs, atom-good)
+
+returns-2 : tie.Need-returns-2
+returns-2 c = search (needs, atom-bad)
+
+pub prepare-atom-name-spec : {M : Type 1} → statement M
+prepare-atom-name-spec =
+    tie.close (tie.spec trimmed-requires valid-text-requires fitted-requires returns returns-2)

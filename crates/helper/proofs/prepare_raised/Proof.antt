@@ -1,0 +1,28 @@
+-- `helper::prepare_raised` is `raised`. Assumes nothing.
+use Rattle.helper.proofs.Laws.{raised-good, raised-other}
+use borrow.Author.Needs.{needs}
+use Rattle.helper.proofs.prepare_raised.Statement.{statement}
+use Rattle.helper.proofs.prepare_raised.Tie as tie
+
+trimmed-requires : tie.Need-trimmed-requires
+trimmed-requires c κs = search needs
+
+valid-text-requires : tie.Need-valid-text-requires
+valid-text-requires c κs = search needs
+
+both-requires : tie.Need-both-requires
+both-requires c κs = search needs
+
+fitted-requires : tie.Need-fitted-requires
+fitted-requires c κs = search needs
+
+returns : tie.Need-returns
+returns c = search (needs, raised-good)
+
+returns-2 : tie.Need-returns-2
+returns-2 c = search (needs, raised-other)
+
+pub prepare-raised-spec : {M : Type 1} → statement M
+prepare-raised-spec =
+    tie.close
+    (tie.spec trimmed-requires valid-text-requires both-requires fitted-requires returns returns-2)

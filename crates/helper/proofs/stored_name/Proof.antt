@@ -1,0 +1,17 @@
+-- `helper::stored_name` is `storedBy conformerName`. Assumes nothing.
+use Rattle.helper.proofs.Stored.{name-stored}
+use borrow.Author.Needs.{needs}
+use Rattle.helper.proofs.stored_name.Statement.{statement}
+use Rattle.helper.proofs.stored_name.Tie as tie
+
+tidy-word-requires : tie.Need-tidy-word-requires
+tidy-word-requires c κs = search needs
+
+both-requires : tie.Need-both-requires
+both-requires c κs = search needs
+
+returns : tie.Need-returns
+returns c = search (needs, name-stored)
+
+pub stored-name-spec : {M : Type 1} → statement M
+stored-name-spec = tie.close (tie.spec tidy-word-requires both-requires returns)

@@ -1,0 +1,42 @@
+-- `helper::tidy_half` is `tidy` of four bytes. Assumes nothing.
+use Rattle.helper.proofs.Stored.{tidy-four}
+use borrow.Author.Needs.{needs}
+use Rattle.helper.proofs.tidy_half.Statement.{statement}
+use Rattle.helper.proofs.tidy_half.Tie as tie
+
+tidy-byte-requires : tie.Need-tidy-byte-requires
+tidy-byte-requires c κs = search needs
+
+tidy-byte-requires-2 : tie.Need-tidy-byte-requires-2
+tidy-byte-requires-2 c κs = search needs
+
+tidy-byte-requires-3 : tie.Need-tidy-byte-requires-3
+tidy-byte-requires-3 c κs = search needs
+
+tidy-byte-requires-4 : tie.Need-tidy-byte-requires-4
+tidy-byte-requires-4 c κs = search needs
+
+both-requires : tie.Need-both-requires
+both-requires c κs = search needs
+
+both-requires-2 : tie.Need-both-requires-2
+both-requires-2 c κs = search needs
+
+both-requires-3 : tie.Need-both-requires-3
+both-requires-3 c κs = search needs
+
+returns : tie.Need-returns
+returns c = search (needs, tidy-four)
+
+pub tidy-half-spec : {M : Type 1} → statement M
+tidy-half-spec =
+    tie.close
+    (tie.spec
+    tidy-byte-requires
+    tidy-byte-requires-2
+    tidy-byte-requires-3
+    tidy-byte-requires-4
+    both-requires
+    both-requires-2
+    both-requires-3
+    returns)

@@ -1,0 +1,38 @@
+-- `helper::trimmed` is `trim`. Assumes nothing.
+use Rattle.helper.proofs.Laws.{trim-is, part-length}
+use borrow.Author.Needs.{needs}
+use Rattle.helper.proofs.trimmed.Statement.{statement}
+use Rattle.helper.proofs.trimmed.Tie as tie
+
+ink-start-requires : tie.Need-ink-start-requires
+ink-start-requires c κs = search needs
+
+sub-rest : tie.Need-sub-rest
+sub-rest c = search needs
+
+part-rest-start : tie.Need-part-rest-start
+part-rest-start c = search needs
+
+part-rest-end : tie.Need-part-rest-end
+part-rest-end c = search needs
+
+ink-end-requires : tie.Need-ink-end-requires
+ink-end-requires c κs = search needs
+
+slice-aggregate-result : tie.Need-slice-aggregate-result
+slice-aggregate-result c = search (needs, part-length)
+
+returns : tie.Need-returns
+returns c = search (needs, trim-is)
+
+pub trimmed-spec : {M : Type 1} → statement M
+trimmed-spec =
+    tie.close
+    (tie.spec
+    ink-start-requires
+    sub-rest
+    part-rest-start
+    part-rest-end
+    ink-end-requires
+    slice-aggregate-result
+    returns)

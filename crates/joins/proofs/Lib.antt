@@ -1,0 +1,4 @@
+pub mod Shift
+pub mod Blocks
+pub mod Laws
+pub mod Returns

@@ -1,0 +1,3 @@
+pub mod Prune
+pub mod Laws
+pub mod Words

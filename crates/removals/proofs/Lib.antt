@@ -1,0 +1,4 @@
+pub mod Cut
+pub mod Scan
+pub mod First
+pub mod Laws

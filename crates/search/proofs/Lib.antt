@@ -1,0 +1,5 @@
+pub mod Terms
+pub mod Records
+pub mod Nodes
+pub mod Depth
+pub mod Postfix

@@ -1,0 +1,135 @@
+-- `search::term_value` meets its contract: a term's arm is the level that it asks for, which alone decides it. Assumes nothing.
+use borrow.Author.Needs.{needs}
+use Rattle.machine.specs.Query.{Names}
+use Rattle.search.proofs.Records.{model-arm, chain-arm, residue-arm, conformer-arm, atom-arm, side-arm-false, side-arm-true, side-arm-left}
+use Rattle.search.proofs.term_value.Statement.{statement}
+use Rattle.search.proofs.term_value.Tie as tie
+
+between-requires : tie.Need-between-requires
+between-requires c κs = search needs
+
+model-value-requires : tie.Need-model-value-requires
+model-value-requires c κs = search needs
+
+between-requires-2 : tie.Need-between-requires-2
+between-requires-2 c κs = search needs
+
+chain-value-requires : tie.Need-chain-value-requires
+chain-value-requires c κs = search needs
+
+between-requires-3 : tie.Need-between-requires-3
+between-requires-3 c κs = search needs
+
+residue-value-requires : tie.Need-residue-value-requires
+residue-value-requires c κs = search needs
+
+between-requires-4 : tie.Need-between-requires-4
+between-requires-4 c κs = search needs
+
+conformer-value-requires : tie.Need-conformer-value-requires
+conformer-value-requires c κs = search needs
+
+between-requires-5 : tie.Need-between-requires-5
+between-requires-5 c κs = search needs
+
+conformer-value-requires-2 : tie.Need-conformer-value-requires-2
+conformer-value-requires-2 c κs = search needs
+
+enum-told : tie.Need-enum-told
+enum-told c = search needs
+
+between-requires-6 : tie.Need-between-requires-6
+between-requires-6 c κs = search needs
+
+atom-value-requires : tie.Need-atom-value-requires
+atom-value-requires c κs = search needs
+
+enum-told-2 : tie.Need-enum-told-2
+enum-told-2 c = search needs
+
+enum-told-3 : tie.Need-enum-told-3
+enum-told-3 c = search needs
+
+between-requires-7 : tie.Need-between-requires-7
+between-requires-7 c κs = search needs
+
+atom-value-requires-2 : tie.Need-atom-value-requires-2
+atom-value-requires-2 c κs = search needs
+
+returns : tie.Need-returns
+returns c =
+    let a = c .before .before .before .before .before .before .args in
+    let names : Names = record { residues = a .residues .now; atoms = a .atoms .now } in
+    model-arm names (a .words .now) (a .at) (a .low) (a .high) (a .t) (c .model-value .ensures names) (c .before .between .ensures) (c .before .before .match .keys1)
+
+returns-2 : tie.Need-returns-2
+returns-2 c =
+    let a = c .before .before .before .before .before .before .args in
+    let names : Names = record { residues = a .residues .now; atoms = a .atoms .now } in
+    chain-arm names (a .words .now) (a .at) (a .low) (a .high) (a .t) (c .chain-value .ensures names) (c .before .between2 .ensures) (c .before .before .match .keys2)
+
+returns-3 : tie.Need-returns-3
+returns-3 c =
+    let a = c .before .before .before .before .before .before .args in
+    let names : Names = record { residues = a .residues .now; atoms = a .atoms .now } in
+    residue-arm names (a .words .now) (a .at) (a .low) (a .high) (a .t) (c .residue-value .ensures names) (c .before .between3 .ensures) (c .before .before .match .keys3)
+
+returns-4 : tie.Need-returns-4
+returns-4 c =
+    let a = c .before .before .before .before .before .before .args in
+    let names : Names = record { residues = a .residues .now; atoms = a .atoms .now } in
+    conformer-arm names (a .words .now) (a .at) (a .low) (a .high) (a .t) (c .conformer-value .ensures (a .atoms .now)) (c .before .between4 .ensures) (c .before .before .match .keys4)
+
+returns-5 : tie.Need-returns-5
+returns-5 c =
+    let a = c .before .before .before .before .before .before .before .before .before .before .args in
+    let names : Names = record { residues = a .residues .now; atoms = a .atoms .now } in
+    side-arm-left names (a .words .now) (a .at) (a .low) (a .high) (a .t) (c .before .before .before .before .before .before .match .keys5) (c .before .before .before .before .conformer-value2 .ensures (a .atoms .now)) (c .before .before .before .before .before .between5 .ensures) (c .before .before .enum-told .given .1) (c .atom-value .ensures (a .residues .now)) (c .before .between6 .ensures)
+
+returns-6 : tie.Need-returns-6
+returns-6 c =
+    let a = c .before .before .before .before .before .before .before .before .args in
+    let names : Names = record { residues = a .residues .now; atoms = a .atoms .now } in
+    side-arm-false names (a .words .now) (a .at) (a .low) (a .high) (a .t) (c .before .before .before .before .match .keys5) (c .before .before .conformer-value2 .ensures (a .atoms .now)) (c .before .before .before .between5 .ensures) (c .enum-told2 .given .1)
+
+returns-7 : tie.Need-returns-7
+returns-7 c =
+    let a = c .before .before .before .before .before .before .before .before .args in
+    let names : Names = record { residues = a .residues .now; atoms = a .atoms .now } in
+    side-arm-true names (a .words .now) (a .at) (a .low) (a .high) (a .t) (c .before .before .before .before .match .keys5) (c .before .before .conformer-value2 .ensures (a .atoms .now)) (c .before .before .before .between5 .ensures) (c .enum-told3 .given .1)
+
+returns-8 : tie.Need-returns-8
+returns-8 c =
+    let a = c .before .before .before .before .before .before .args in
+    let names : Names = record { residues = a .residues .now; atoms = a .atoms .now } in
+    atom-arm names (a .words .now) (a .at) (a .low) (a .high) (a .t) (c .atom-value2 .ensures (a .residues .now)) (c .before .between7 .ensures) (c .before .before .match .keys6)
+
+pub term-value-spec : {M : Type 1} → statement M
+term-value-spec =
+    tie.close
+    (tie.spec
+    between-requires
+    model-value-requires
+    between-requires-2
+    chain-value-requires
+    between-requires-3
+    residue-value-requires
+    between-requires-4
+    conformer-value-requires
+    between-requires-5
+    conformer-value-requires-2
+    enum-told
+    between-requires-6
+    atom-value-requires
+    enum-told-2
+    enum-told-3
+    between-requires-7
+    atom-value-requires-2
+    returns
+    returns-2
+    returns-3
+    returns-4
+    returns-5
+    returns-6
+    returns-7
+    returns-8)

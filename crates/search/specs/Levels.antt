@@ -1,0 +1,52 @@
+-- Places at which one level alone is known, and the place that five records of a store make. Assumes nothing.
+use Prim.Native.Nat.{ℕ, _+_, _*_, _≤_}
+use mathlib.Core.List.{List}
+use mathlib.Core.Option.{Option, none, some}
+use lib.ListN.{length, take, drop}
+use Rattle.machine.specs.Record.{Model, Chain, Residue, Conformer, Atom, fieldsOf}
+use Rattle.machine.specs.Query.{Place, window, termValue}
+use Rattle.machine.specs.declared.Tri.{Tri}
+use Rattle.machine.specs.declared.Term.{Term}
+use Rattle.machine.specs.declared.RecordNumbers.{RecordNumbers}
+
+abbrev pub atModel : Option Model → Place
+atModel o = record { model = o; chain = none; residue = none; conformer = none; atom = none }
+
+abbrev pub atChain : Option Chain → Place
+atChain o = record { model = none; chain = o; residue = none; conformer = none; atom = none }
+
+abbrev pub atResidue : Option Residue → Place
+atResidue o = record { model = none; chain = none; residue = o; conformer = none; atom = none }
+
+abbrev pub atConformer : Option Conformer → Place
+atConformer o = record { model = none; chain = none; residue = none; conformer = o; atom = none }
+
+abbrev pub atAtom : Option Atom → Place
+atAtom o = record { model = none; chain = none; residue = none; conformer = none; atom = o }
+
+-- the twelve words of record n
+unfoldable pub recordAt : List ℕ → ℕ → List ℕ
+recordAt w n = take 12 (drop (n * 12) w)
+
+-- all five levels known
+unfoldable pub placeAt : List ℕ → RecordNumbers → Place
+placeAt w at =
+    record {
+      model = some (fieldsOf 4 (recordAt w (at .model)));
+      chain = some (fieldsOf 3 (recordAt w (at .chain)));
+      residue = some (fieldsOf 2 (recordAt w (at .residue)));
+      conformer = some (fieldsOf 1 (recordAt w (at .conformer)));
+      atom = some (fieldsOf 0 (recordAt w (at .atom)));
+    }
+
+-- the terms' values there with the kinds from low to high alone known, by lists of residue names and of atom names
+abbrev pub valueAt : List ℕ → RecordNumbers → ℕ → ℕ → List ℕ → List ℕ → Term → Tri
+valueAt w at low high residues atoms = termValue (record { residues = residues; atoms = atoms }) (window low high (placeAt w at))
+
+-- the five records stand in the words
+pub record Inside (w : List ℕ) (at : RecordNumbers) : Type 0 where
+  pub model : at .model * 12 + 12 ≤ length w
+  pub chain : at .chain * 12 + 12 ≤ length w
+  pub residue : at .residue * 12 + 12 ≤ length w
+  pub conformer : at .conformer * 12 + 12 ≤ length w
+  pub atom : at .atom * 12 + 12 ≤ length w

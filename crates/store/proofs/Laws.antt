@@ -1,0 +1,108 @@
+-- Twelve words as a record: what `goodRecord` asks of them at each kind. Assumes nothing.
+use Prim.Native.Nat.{ℕ, zero, suc, _-_, _≤_}
+use mathlib.Core.Path.{_≡_, refl, sym, _∙_}
+use mathlib.Core.Bool.{Bool, true, false, _&&_, false≢true}
+use mathlib.Core.List.{List, [], _∷_}
+use native.Mathlib.Omega.{arith}
+use lib.ListN.{length, getD, take, drop, replicate}
+use lib.Dec.{leb, eqb}
+use borrow.Author.Tests.{eq-eqb, ne-eqb, leb-true, leb-false}
+use Rattle.machine.specs.Lists.{all, same}
+use Rattle.machine.specs.Text.{chainId, insertionCode, conformerName, alternativeLocation, atomName, storedBy, absentOr}
+use Rattle.machine.specs.Record.{Words, words, kind, finite, fieldsOf, goodValues, goodFields, goodRecord}
+
+-- ---- Bool tests
+
+and-last : (a : Bool) → a && true ≡ a
+and-last true = refl
+and-last false = refl
+
+pub and-false : (a : Bool) → a && false ≡ false
+and-false true = refl
+and-false false = refl
+
+and-assoc : (a b c : Bool) → (a && b) && c ≡ a && (b && c)
+and-assoc true b c = refl
+and-assoc false b c = refl
+
+-- ---- twelve words
+
+peel : (P : Words → Type 0) (n : ℕ) → ((a : ℕ) (r : Words) → length r ≡ n → P (a ∷ r)) → (r : Words) → length r ≡ suc n → P r
+peel P n f [] h = absurd (omega arith)
+peel P n f (a ∷ r) h = f a r (omega arith)
+
+none : (P : Words → Type 0) → P [] → (r : Words) → length r ≡ 0 → P r
+none P p [] h = p
+none P p (a ∷ r) h = absurd (omega arith)
+
+-- what holds of every twelve words written out holds of a list of length 12
+twelve : (P : Words → Type 0) → ((a b c d e f g h i j k l : ℕ) → P (a ∷ b ∷ c ∷ d ∷ e ∷ f ∷ g ∷ h ∷ i ∷ j ∷ k ∷ l ∷ [])) → (r : Words) → length r ≡ 12 → P r
+twelve P p =
+    peel P 11 λ a. peel _ 10 λ b. peel _ 9 λ c. peel _ 8 λ d. peel _ 7 λ e. peel _ 6 λ f. peel _ 5 λ g. peel _ 4 λ h. peel _ 3 λ i. peel _ 2 λ j. peel _ 1 λ k. peel _ 0 λ l. none _ (p a b c d e f g h i j k l)
+
+abbrev zeros : List ℕ
+zeros = replicate 9 0
+
+pub unnamed-zero : (r : Words) → length r ≡ 12 →
+    ((eqb (getD r 3 0) 0 && eqb (getD r 4 0) 0) && (eqb (getD r 5 0) 0 && eqb (getD r 6 0) 0)) && ((eqb (getD r 7 0) 0 && eqb (getD r 8 0) 0) && (eqb (getD r 9 0) 0 && (eqb (getD r 10 0) 0 && eqb (getD r 11 0) 0))) ≡ same (drop 3 r) zeros
+unnamed-zero = twelve _ (λ a b c d e f g h i j k l. simp (and-assoc, and-last))
+
+pub finite-words : (r : Words) → length r ≡ 12 →
+    finite (getD r 3 0) && (finite (getD r 4 0) && (finite (getD r 5 0) && (finite (getD r 6 0) && finite (getD r 7 0)))) ≡ all finite (take 5 (drop 3 r))
+finite-words = twelve _ (λ a b c d e f g h i j k l. simp and-last)
+
+-- ---- a record of each kind
+
+eqb-same : (x : ℕ) → eqb x x ≡ true
+eqb-same x = eq-eqb x x refl
+
+pub atom-record : (r : Words) → length r ≡ 12 → kind r ≡ 5 →
+    eqb (getD r 11 0) 0 && (storedBy atomName (getD r 2 0) && ((all finite (take 5 (drop 3 r)) && leb (getD r 8 0) 118) && leb (getD r 10 0) 1)) ≡ goodRecord (5 - kind r) r
+unfolding goodRecord words fieldsOf goodFields goodValues
+atom-record = twelve _ (λ a b c d e f g h i j k l q. rw q (simp (eqb-same, and-last)))
+
+pub conformer-record : (r : Words) → length r ≡ 12 → kind r ≡ 4 →
+    same (drop 3 r) zeros && (storedBy conformerName (getD r 1 0) && absentOr alternativeLocation (getD r 2 0)) ≡ goodRecord (5 - kind r) r
+unfolding goodRecord words fieldsOf goodFields
+conformer-record = twelve _ (λ a b c d e f g h i j k l q. rw q (simp eqb-same))
+
+pub residue-record : (r : Words) → length r ≡ 12 → kind r ≡ 3 → same (drop 3 r) zeros && absentOr insertionCode (getD r 2 0) ≡ goodRecord (5 - kind r) r
+unfolding goodRecord words fieldsOf goodFields
+residue-record = twelve _ (λ a b c d e f g h i j k l q. rw q (simp eqb-same))
+
+pub chain-record : (r : Words) → length r ≡ 12 → kind r ≡ 2 → (eqb (getD r 2 0) 0 && same (drop 3 r) zeros) && storedBy chainId (getD r 1 0) ≡ goodRecord (5 - kind r) r
+unfolding goodRecord words fieldsOf goodFields
+chain-record = twelve _ (λ a b c d e f g h i j k l q. rw q (simp eqb-same))
+
+pub model-record : (r : Words) → length r ≡ 12 → kind r ≡ 1 → eqb (getD r 2 0) 0 && same (drop 3 r) zeros ≡ goodRecord (5 - kind r) r
+unfolding goodRecord words fieldsOf goodFields
+model-record = twelve _ (λ a b c d e f g h i j k l q. rw q (simp (eqb-same, and-last)))
+
+other-kind : (r : Words) → length r ≡ 12 → (kind r ≡ 5 → ⊥) → goodRecord 0 r ≡ false
+unfolding goodRecord words fieldsOf
+other-kind = twelve _ (λ a b c d e f g h i j k l q. rw (ne-eqb a 5 q))
+
+-- 5 - 0 is no level, and the level of a kind above 5 is the atoms', 0
+pub no-record : (r : Words) → length r ≡ 12 → (kind r ≡ 5 → ⊥) → (kind r ≡ 4 → ⊥) → (kind r ≡ 3 → ⊥) → (kind r ≡ 2 → ⊥) → (kind r ≡ 1 → ⊥) → false ≡ goodRecord (5 - kind r) r
+unfolding goodRecord goodFields
+no-record r len a b c d e = go (kind r) refl
+  where
+    go : (k : ℕ) → kind r ≡ k → false ≡ goodRecord (5 - kind r) r
+    go zero q = let z : 5 - kind r ≡ 5 = omega arith in rw z (sym (and-false (same r (words 5 (fieldsOf 5 r)))))
+    go (suc k) q = let z : 5 - kind r ≡ 0 = omega arith in rw z (sym (other-kind r len a))
+
+pub good-kind : (r : Words) → length r ≡ 12 → goodRecord (5 - kind r) r ≡ true → (1 ≤ kind r) × (kind r ≤ 5)
+good-kind r len g = (low (leb 1 (kind r)) refl, high (leb (kind r) 5) refl)
+  where
+    no : (1 ≤ kind r → kind r ≤ 5 → ⊥) → ⊥
+    no f =
+        let one : (k : ℕ) → 1 ≤ k → k ≤ 5 → kind r ≡ k → ⊥ = λ k a b e. f (omega arith) (omega arith) in
+        false≢true (no-record r len (one 5 (omega arith) (omega arith)) (one 4 (omega arith) (omega arith)) (one 3 (omega arith) (omega arith)) (one 2 (omega arith) (omega arith)) (one 1 (omega arith) (omega arith)) ∙ g)
+
+    low : (b : Bool) → leb 1 (kind r) ≡ b → 1 ≤ kind r
+    low true q = leb-true 1 (kind r) q
+    low false q = let l = leb-false 1 (kind r) q in absurd (no (λ a b. omega arith))
+
+    high : (b : Bool) → leb (kind r) 5 ≡ b → kind r ≤ 5
+    high true q = leb-true (kind r) 5 q
+    high false q = let l = leb-false (kind r) 5 q in absurd (no (λ a b. omega arith))

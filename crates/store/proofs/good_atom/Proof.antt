@@ -1,0 +1,56 @@
+-- `store::good_atom` meets its contract: its tests are those of `goodRecord` at kind 5. Assumes nothing.
+use borrow.Author.Needs.{needs}
+use Rattle.store.proofs.Laws.{atom-record}
+use Rattle.store.proofs.good_atom.Statement.{statement}
+use Rattle.store.proofs.good_atom.Tie as tie
+
+finite-words-requires : tie.Need-finite-words-requires
+finite-words-requires c κs = search needs
+
+shared-slice-read-both : tie.Need-shared-slice-read-both
+shared-slice-read-both c = search needs
+
+both-requires : tie.Need-both-requires
+both-requires c κs = search needs
+
+shared-slice-read-both-2 : tie.Need-shared-slice-read-both-2
+shared-slice-read-both-2 c = search needs
+
+both-requires-2 : tie.Need-both-requires-2
+both-requires-2 c κs = search needs
+
+shared-slice-read-both-3 : tie.Need-shared-slice-read-both-3
+shared-slice-read-both-3 c = search needs
+
+shared-slice-read-stored-atom-name : tie.Need-shared-slice-read-stored-atom-name
+shared-slice-read-stored-atom-name c = search needs
+
+stored-atom-name-requires : tie.Need-stored-atom-name-requires
+stored-atom-name-requires c κs = search needs
+
+both-requires-3 : tie.Need-both-requires-3
+both-requires-3 c κs = search needs
+
+both-requires-4 : tie.Need-both-requires-4
+both-requires-4 c κs = search needs
+
+returns : tie.Need-returns
+returns c =
+    let s = c .before .before .before .before .before .before .before .before .before .before .before in
+    cc (atom-record (s .args .r .now) (s .pre .0) (s .pre .1))
+
+pub good-atom-spec : {M : Type 1} → statement M
+good-atom-spec =
+    tie.close
+    (tie.spec
+    finite-words-requires
+    shared-slice-read-both
+    both-requires
+    shared-slice-read-both-2
+    both-requires-2
+    shared-slice-read-both-3
+    shared-slice-read-stored-atom-name
+    stored-atom-name-requires
+    both-requires-3
+    both-requires-4
+    returns)

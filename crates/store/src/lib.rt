@@ -1,0 +1,193 @@
+// The store (document 01, "Store"): its layout check, opening, and an atom read out.
+ghost use mathlib.Core.Path.{_≡_};
+ghost use mathlib.Core.Bool.{cond, _&&_};
+ghost use Prim.Native.Nat.{zero, _+_, _-_, _*_, _/_, _%_, _≤_};
+ghost use lib.ListN.{length, take, drop, replicate};
+ghost use lib.Dec.{eqb};
+ghost use Rattle.machine.specs.Lists.{all, same};
+ghost use Rattle.machine.specs.Answer.{openedNumbers};
+ghost use Rattle.machine.specs.Record.{kind, finite, fieldsOf, goodRecord, readOut};
+ghost use Rattle.machine.specs.Store.{chunks, readStore, openRun};
+ghost use Rattle.store.specs.Store.{checkedBy, counted};
+use machine::AtomRec;
+use machine::Opened;
+use machine::Refusal;
+
+// How many atoms a store holds, or why it isn't one.
+pub enum Checked {
+    Good(u64),
+    Refused(Refusal),
+}
+
+fn both(a: bool, b: bool) -> bool
+    ensures { λ r. ⌜ r ≡ (a && b) ⌝ }
+{
+    a & b
+}
+
+fn one_if(b: bool) -> u64
+    ensures { λ r. ⌜ (r ≡ cond b 1 0) × (r ≤ 1) ⌝ }
+{
+    if b { 1 } else { 0 }
+}
+
+// Words not named are 0: those from 3 on, in a record above the atoms.
+fn unnamed_zero(r: &[u64]) -> bool
+    requires { ⌜ length (now r) ≡ 12 ⌝ }
+    ensures { λ b. ⌜ b ≡ same (drop 3 (now (r .entry))) (replicate 9 0) ⌝ }
+{
+    both(
+        both(both(r[3] == 0, r[4] == 0), both(r[5] == 0, r[6] == 0)),
+        both(
+            both(r[7] == 0, r[8] == 0),
+            both(r[9] == 0, both(r[10] == 0, r[11] == 0)),
+        ),
+    )
+}
+
+// An atom's five floats are finite.
+fn finite_words(r: &[u64]) -> bool
+    requires { ⌜ length (now r) ≡ 12 ⌝ }
+    ensures { λ b. ⌜ b ≡ all finite (take 5 (drop 3 (now (r .entry)))) ⌝ }
+{
+    both(
+        floats::is_finite(r[3]),
+        both(
+            floats::is_finite(r[4]),
+            both(
+                floats::is_finite(r[5]),
+                both(floats::is_finite(r[6]), floats::is_finite(r[7])),
+            ),
+        ),
+    )
+}
+
+// An atom's record. Element is 1 to 118 or 0, hetero 0 or 1, and word 11 is not named.
+fn good_atom(r: &[u64]) -> bool
+    requires { ⌜ (length (now r) ≡ 12) × (kind (now r) ≡ 5) ⌝ }
+    ensures { λ b. ⌜ b ≡ goodRecord (5 - kind (now (r .entry))) (now (r .entry)) ⌝ }
+{
+    let values = both(both(finite_words(r), r[8] <= 118), r[10] <= 1);
+    both(r[11] == 0, both(helper::stored_atom_name(r[2]), values))
+}
+
+// Whether twelve words are a good record of the kind that word 0 gives.
+fn good_record(r: &[u64]) -> bool
+    requires { ⌜ length (now r) ≡ 12 ⌝ }
+    ensures { λ b. ⌜ b ≡ goodRecord (5 - kind (now (r .entry))) (now (r .entry)) ⌝ }
+{
+    match r[0] {
+        5 => good_atom(r),
+        4 => both(
+            unnamed_zero(r),
+            both(helper::stored_name(r[1]), helper::stored_location(r[2])),
+        ),
+        3 => both(unnamed_zero(r), helper::stored_code(r[2])),
+        2 => both(
+            both(r[2] == 0, unnamed_zero(r)),
+            helper::stored_chain_id(r[1]),
+        ),
+        1 => both(r[2] == 0, unnamed_zero(r)),
+        _ => false,
+    }
+}
+
+// The first kind is 1; each later kind is 1 to 5 and at most the previous plus 1. The atoms are counted on the way.
+fn check_records(store: &[u64], end: usize) -> Checked
+    requires { ⌜ (end ≤ length (now store)) × (end % 12 ≡ 0) ⌝ }
+    ensures { λ r. ⌜ r ≡ counted 0 0 (chunks (end / 12) (now (store .entry))) ⌝ }
+{
+    let mut at: usize = 0;
+    let mut previous: u64 = 0;
+    let mut atoms: u64 = 0;
+    while at < end {
+        let k = store[at];
+        if previous + 1 < k {
+            return Checked::Refused(Refusal::BrokenLayout);
+        }
+        if good_record(&store[at..at + 12]) {
+            atoms += one_if(k == 5);
+            previous = k;
+            at += 12;
+        } else {
+            return Checked::Refused(Refusal::BrokenLayout);
+        }
+    }
+    Checked::Good(atoms)
+}
+
+fn all_zero(s: &[u64]) -> bool
+    ensures { λ r. ⌜ r ≡ all (eqb 0) (now (s .entry)) ⌝ }
+{
+    let mut i: usize = 0;
+    while i < s.len() {
+        if s[i] == 0 {
+            i += 1;
+        } else {
+            return false;
+        }
+    }
+    true
+}
+
+// One pass over the words: 1 bad length; 2 layout broken.
+pub fn check(store: &[u64]) -> Checked
+    ensures { λ r. ⌜ r ≡ checkedBy (readStore (now (store .entry))) ⌝ }
+{
+    let n = store.len();
+    if n < 1 {
+        return Checked::Refused(Refusal::BadLength);
+    }
+    if 1200001 < n {
+        return Checked::Refused(Refusal::BadLength);
+    }
+    let last = n - 1;
+    let end = store[last] as usize;
+    if last < end {
+        return Checked::Refused(Refusal::BrokenLayout);
+    }
+    if end % 12 != 0 {
+        return Checked::Refused(Refusal::BrokenLayout);
+    }
+    if all_zero(&store[end..last]) {
+        check_records(store, end)
+    } else {
+        Checked::Refused(Refusal::BrokenLayout)
+    }
+}
+
+// Opening sets every word to 0, and refuses only with 1.
+pub fn open(store: &mut [u64]) -> Opened
+    ensures { λ r. ⌜ (openedNumbers r, now (store .exit)) ≡ openRun (now (store .entry)) ⌝ }
+{
+    let n = store.len();
+    if n < 1 {
+        return Opened::Refused(Refusal::BadLength);
+    }
+    if 1200001 < n {
+        return Opened::Refused(Refusal::BadLength);
+    }
+    moves::clear(store, 0, n);
+    Opened::Done
+}
+
+// The atom at a record number, read out as its floats and numbers.
+pub fn read_atom(store: &[u64], record: usize) -> AtomRec
+    requires { ⌜ («record» + 1) * 12 ≤ length (now store) ⌝ }
+    ensures { λ r. ⌜ r ≡ readOut (fieldsOf zero (take 12 (drop («record» * 12) (now (store .entry))))) ⌝ }
+{
+    let at = record * 12;
+    let r = &store[at..at + 12];
+    AtomRec {
+        serial: r[1],
+        name: r[2],
+        x: floats::float_of(r[3]),
+        y: floats::float_of(r[4]),
+        z: floats::float_of(r[5]),
+        occupancy: floats::float_of(r[6]),
+        b_factor: floats::float_of(r[7]),
+        element: r[8],
+        charge: floats::int_of(r[9]),
+        hetero: r[10] == 1,
+    }
+}
