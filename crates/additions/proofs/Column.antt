@@ -1,0 +1,307 @@
+-- An addition below a model's children is one column of records put in at one place, and that place is where the scans lead.
+-- Assumes nothing.
+use Prim.Native.Nat.{ℕ, suc, _+_, _≤_, _<_}
+use mathlib.Core.Path.{_≡_, refl, sym, ap, _∙_}
+use mathlib.Core.Bool.{Bool, true, false, cond, _&&_}
+use mathlib.Core.List.{List, [], _∷_, _++_, append-assoc, append-nil}
+use mathlib.Core.Option.{Option, none, some, Option·map}
+use native.Mathlib.Nat.{zero-add, suc-add}
+use native.Mathlib.Omega.{arith}
+use lib.ListN.{length, take, drop, length-append, length-drop, take-append-drop}
+use lib.Seq.{take-at, drop-at, length-take-le}
+use lib.Dec.{eqb}
+use borrow.Author.Tests.{ne-eqb}
+use Rattle.machine.specs.Lists.{orElse, bind}
+use Rattle.machine.specs.Record.{Fields, Words, words, kind}
+use Rattle.machine.specs.Store.{Branch, Machine, flat, chunks}
+use Rattle.machine.specs.Edit.{NewAtom, Which, first, last, pick, root, upsert, newAtom, intoChains, replaceAt}
+use Rattle.laws.specs.Lists.{All, All-map, All-append, bind-append}
+use Rattle.laws.specs.Grouped.{words-kind, chunks-length}
+use Rattle.laws.specs.Scan.{Ends}
+use Rattle.laws.specs.Places.{Around, Spot}
+use Rattle.seek.specs.Seek.{between, run}
+use Rattle.seek.specs.Below.{chunks-take, run-over, flat-root, flat-kinds}
+use Rattle.additions.specs.Add.{Key, marks, pickSpan, spotIn, keysOf, preparedOf, atomOf}
+use Rattle.additions.specs.declared.Names as Names
+use Rattle.additions.specs.declared.NewAtom as Values
+
+-- ---- the element that is picked
+
+-- what is picked where the first element is marked or not, by what is picked of the others
+abbrev chosen : Which → Bool → Option ℕ → Option ℕ
+chosen first b o = cond b (some 0) (Option·map suc o)
+chosen last b o = orElse (Option·map suc o) (cond b (some 0) none)
+
+pub or-none : (o : Option ℕ) → orElse o none ≡ o
+or-none none = refl
+or-none (some x) = refl
+
+one-more : (w : Which) (b : Bool) (q : Option ℕ) (n : ℕ) → ((i : ℕ) → q ≡ some i → i < n) → (o : ℕ) → chosen w b q ≡ some o → o < suc n
+one-more first true q n f o e = let z : 0 ≡ o = cc in omega arith
+one-more first false none n f o e = let z : _≡_ {A = ℕ} 0 1 = cc in absurd (omega arith)
+one-more first false (some i) n f o e = let z : suc i ≡ o = cc in omega (arith, f i refl)
+one-more last b (some i) n f o e = let z : suc i ≡ o = cc in omega (arith, f i refl)
+one-more last true none n f o e = let z : 0 ≡ o = cc in omega arith
+one-more last false none n f o e = let z : _≡_ {A = ℕ} 0 1 = cc in absurd (omega arith)
+
+module _ {A : Type 0} (p : A → Bool) where
+  -- an element that is not marked
+  pub pick-pass : (w : Which) (x : A) (xs : List A) → p x ≡ false → pick w p (x ∷ xs) ≡ Option·map suc (pick w p xs)
+  pick-pass first x xs e = rw e
+  pick-pass last x xs e = rw e (or-none (Option·map suc (lastIn xs)))
+    where
+      lastIn : List A → Option ℕ
+      lastIn ys = pick last p ys
+
+  map-zero : (o : Option ℕ) → o ≡ Option·map (λ i. 0 + i) o
+  map-zero none = refl
+  map-zero (some x) = rw zero-add
+
+  map-suc : (n : ℕ) (o : Option ℕ) → Option·map suc (Option·map (λ i. n + i) o) ≡ Option·map (λ i. suc n + i) o
+  map-suc n none = refl
+  map-suc n (some x) = rw suc-add
+
+  pick-over : (w : Which) (b rest : List A) → All (λ x. p x ≡ false) b → pick w p (b ++ rest) ≡ Option·map (λ i. length b + i) (pick w p rest)
+  pick-over w [] rest h = map-zero (pick w p rest)
+  pick-over w (x ∷ b) rest h =
+      pick-pass w x (b ++ rest) (h .0) ∙ ap (Option·map suc) (pick-over w b rest (h .1)) ∙ map-suc (length b) (pick w p rest)
+
+  pub pick-within : (w : Which) (xs : List A) (o : ℕ) → pick w p xs ≡ some o → o < length xs
+  pick-within first [] o e = let z : _≡_ {A = ℕ} 0 1 = cc in absurd (omega arith)
+  pick-within last [] o e = let z : _≡_ {A = ℕ} 0 1 = cc in absurd (omega arith)
+  pick-within first (x ∷ xs) o e = one-more first (p x) (pick first p xs) (length xs) (pick-within first xs) o e
+  pick-within last (x ∷ xs) o e = one-more last (p x) (pick last p xs) (length xs) (pick-within last xs) o e
+
+-- ---- the records of branches below a record of kind h
+
+ends-branches : (h k : ℕ) → h + k ≡ 5 → k ≤ 4 → (ts : List (Branch k)) → Ends h (bind (flat k) ts)
+ends-branches h k l b [] = tt
+ends-branches h k l b (t ∷ ts) = rw (flat-root k t) (omega (arith, words-kind k b (root k t)))
+
+kinds-branches : (h k : ℕ) → h + k ≡ 4 → (ts : List (Branch k)) → All (λ r. h < kind r) (bind (flat k) ts)
+kinds-branches h k l [] = tt
+kinds-branches h k l (t ∷ ts) = All-append _ (flat k t) (bind (flat k) ts) (flat-kinds h k (omega arith) t) (kinds-branches h k l ts)
+
+-- records of kind h are marked as p says of their fields, and none of a higher kind is
+module _ (h k : ℕ) (level : h + k ≡ 4) (mark : Words → Bool) (other : (r : Words) → h < kind r → mark r ≡ false)
+    (p : Fields (suc k) → Bool) (finds : (f : Fields (suc k)) → mark (words (suc k) f) ≡ p f) where
+  abbrev all : List (Branch (suc k)) → List Words
+  all ts = bind (flat (suc k)) ts
+
+  -- the record of the branch that is picked is the record that is picked
+  abbrev Same : Which → List (Branch (suc k)) → Option ℕ → Type 0
+  Same w ts none = pick w mark (all ts) ≡ none
+  Same w ts (some i) = (t : Branch (suc k)) × (a : Around i ts t) × (pick w mark (all ts) ≡ some (length (all (a .before))))
+
+  pick-first : (w : Which) (b : Bool) (t : Branch (suc k)) (ts : List (Branch (suc k))) → p (t .0) ≡ b
+      → pick w mark (all (t ∷ ts)) ≡ chosen w b (Option·map (λ i. length (bind (flat k) (t .1)) + i) (pick w mark (all ts)))
+  unfolding flat
+  pick-first w b t ts e = go w ∙ rw (finds (t .0), e, pick-over mark w (bind (flat k) (t .1)) (all ts) (All-map other (bind (flat k) (t .1)) (kinds-branches h k level (t .1))))
+    where
+      go : (v : Which) → pick v mark (words (suc k) (t .0) ∷ (bind (flat k) (t .1) ++ all ts)) ≡ chosen v (mark (words (suc k) (t .0))) (pick v mark (bind (flat k) (t .1) ++ all ts))
+      go first = refl
+      go last = refl
+
+  abbrev here : (t : Branch (suc k)) (ts : List (Branch (suc k))) → Around 0 (t ∷ ts) t
+  here t ts = record { before = []; after = ts; was = refl; is = λ f. refl }
+
+  abbrev next : (t : Branch (suc k)) (ts : List (Branch (suc k))) (i : ℕ) (u : Branch (suc k)) → Around i ts u → Around (suc i) (t ∷ ts) u
+  next t ts i u a =
+      record {
+        before = t ∷ a .before;
+        after = a .after;
+        was = ap (λ (l : List (Branch (suc k))). t ∷ l) (a .was);
+        is = λ f. ap (λ (l : List (Branch (suc k))). t ∷ l) (a .is f);
+      }
+
+  further : (t : Branch (suc k)) (ts : List (Branch (suc k))) → suc (length (bind (flat k) (t .1)) + length (all ts)) ≡ length (all (t ∷ ts))
+  unfolding flat
+  further t ts = ap suc (sym (length-append (bind (flat k) (t .1)) (all ts)))
+
+  pick-step : (w : Which) (b : Bool) (o : Option ℕ) (t : Branch (suc k)) (ts : List (Branch (suc k))) → p (t .0) ≡ b → Same w ts o → Same w (t ∷ ts) (chosen w b o)
+  pick-step first true o t ts e s = (t, here t ts, pick-first first true t ts e)
+  pick-step first false none t ts e s = pick-first first false t ts e ∙ rw s
+  pick-step first false (some i) t ts e s = (s .0, next t ts i (s .0) (s .1), pick-first first false t ts e ∙ rw (s .2) (ap some (further t (s .1 .before))))
+  pick-step last b (some i) t ts e s = (s .0, next t ts i (s .0) (s .1), pick-first last b t ts e ∙ rw (s .2) (ap some (further t (s .1 .before))))
+  pick-step last true none t ts e s = (t, here t ts, pick-first last true t ts e ∙ rw s)
+  pick-step last false none t ts e s = pick-first last false t ts e ∙ rw s
+
+  picked : (w : Which) (ts : List (Branch (suc k))) → Same w ts (pick w (λ t. p (t .0)) ts)
+  picked first [] = refl
+  picked last [] = refl
+  picked first (t ∷ ts) = pick-step first (p (t .0)) (pick first (λ u. p (u .0)) ts) t ts refl (picked first ts)
+  picked last (t ∷ ts) = pick-step last (p (t .0)) (pick last (λ u. p (u .0)) ts) t ts refl (picked last ts)
+
+-- ---- the span of the record that is picked
+
+-- a branch's children stand right after its record, up to the next branch's
+module _ (h k : ℕ) (level : h + k ≡ 4) (w : List ℕ) (from end i : ℕ) (ts : List (Branch (suc k))) (t : Branch (suc k)) (a : Around i ts t)
+    (low : 1 ≤ h) (order : from ≤ end) (records : between from end w ≡ bind (flat (suc k)) ts) where
+  abbrev lead : List Words
+  lead = bind (flat (suc k)) (a .before) ++ (words (suc k) (t .0) ∷ [])
+
+  abbrev kids : List Words
+  kids = bind (flat k) (t .1)
+
+  abbrev rest : List Words
+  rest = bind (flat (suc k)) (a .after)
+
+  parts : between from end w ≡ (lead ++ kids) ++ rest
+  unfolding flat
+  parts = records ∙ ap (bind (flat (suc k))) (a .was) ∙ bind-append (flat (suc k)) (a .before) (t ∷ a .after) ∙ simp append-assoc
+
+  lead-length : length lead ≡ suc (length (bind (flat (suc k)) (a .before)))
+  lead-length = rw length-append (omega arith)
+
+  abbrev start : ℕ
+  start = from + length (bind (flat (suc k)) (a .before))
+
+  abbrev stop : ℕ
+  stop = suc start + length kids
+
+  total : end ≡ from + (length lead + length kids + length rest)
+  total =
+      omega (arith, ap length parts, length-append (lead ++ kids) rest, length-append lead kids, length-drop from (chunks end w), chunks-length end w)
+
+  after-start : drop (suc (length (bind (flat (suc k)) (a .before)))) (between from end w) ≡ kids ++ rest
+  after-start = rw (parts, append-assoc lead kids rest) (drop-at lead (kids ++ rest) _ lead-length)
+
+  kids-run : run h (kids ++ rest) ≡ length kids
+  kids-run = run-over h kids rest (kinds-branches h k level (t .1)) (ends-branches h (suc k) (omega arith) (omega arith) (a .after))
+
+  kids-below : between (start + 1) stop w ≡ kids
+  kids-below =
+      let x : List Words = take from (chunks end w) in
+      let n : length x ≡ from = length-take-le from (chunks end w) (omega (arith, chunks-length end w)) in
+      let f : length (x ++ lead) ≡ start + 1 = omega (arith, length-append x lead, lead-length) in
+      let g : length ((x ++ lead) ++ kids) ≡ stop = omega (arith, length-append (x ++ lead) kids) in
+      let whole : chunks end w ≡ ((x ++ lead) ++ kids) ++ rest = sym (take-append-drop from (chunks end w)) ∙ ap (λ (l : List Words). x ++ l) parts ∙ simp append-assoc in
+      rw (chunks-take stop end w (omega (arith, total, lead-length)), whole, take-at ((x ++ lead) ++ kids) rest stop g) (drop-at (x ++ lead) kids (start + 1) f)
+
+  pick-there : (key : Key) → pick (key .which) (marks h key) (between from end w) ≡ some (length (bind (flat (suc k)) (a .before)))
+      → pickSpan h key from (between from end w) ≡ some (start, stop)
+  pick-there key e = rw (e, after-start, kids-run)
+
+-- ---- one column at one place
+
+-- new records put in among those of branches, which are numbered from n on
+pub record Ins (k : ℕ) (ts us : List (Branch k)) (n at : ℕ) (new : List Words) : Type 0 where
+  pub pre : List Words
+  pub post : List Words
+  pub was : bind (flat k) ts ≡ pre ++ post
+  pub is : bind (flat k) us ≡ pre ++ (new ++ post)
+  pub number : at ≡ n + length pre
+
+-- f puts records in where the keys lead: those of the column that do not stand already
+pub record Puts (h k : ℕ) (f : List (Branch k) → List (Branch k)) (keys : List Key) (col : List Words) : Type 0 where
+  pub alone : bind (flat k) (f []) ≡ col
+  pub among : (w : List ℕ) (from end : ℕ) (ts : List (Branch k)) → from ≤ end → between from end w ≡ bind (flat k) ts
+      → Ins k ts (f ts) from (spotIn h keys from end w .0) (drop (spotIn h keys from end w .1) col)
+
+-- appended, after all of them
+ins-end : (k : ℕ) (w : List ℕ) (from end : ℕ) (ts : List (Branch k)) (t : Branch k) → from ≤ end → between from end w ≡ bind (flat k) ts → Ins k ts (ts ++ (t ∷ [])) from end (flat k t)
+ins-end k w from end ts t order e =
+    record {
+      pre = bind (flat k) ts;
+      post = [];
+      was = sym (append-nil _);
+      is = bind-append (flat k) ts (t ∷ []);
+      number = omega (arith, ap length e, length-drop from (chunks end w), chunks-length end w);
+    }
+
+-- among the children of one of them
+ins-below : (k i : ℕ) (ts us : List (Branch (suc k))) (t : Branch (suc k)) (cs : List (Branch k)) (n at : ℕ) (new : List Words) (a : Around i ts t) → us ≡ a .before ++ ((t .0, cs) ∷ a .after)
+    → Ins k (t .1) cs (n + length (bind (flat (suc k)) (a .before)) + 1) at new → Ins (suc k) ts us n at new
+unfolding flat
+ins-below k i ts us t cs n at new a e s =
+    let lead = bind (flat (suc k)) (a .before) in
+    record {
+      pre = lead ++ (words (suc k) (t .0) ∷ s .pre);
+      post = s .post ++ bind (flat (suc k)) (a .after);
+      was = ap (bind (flat (suc k))) (a .was) ∙ bind-append (flat (suc k)) (a .before) (t ∷ a .after) ∙ rw (s .was) (simp append-assoc);
+      is = ap (bind (flat (suc k))) e ∙ bind-append (flat (suc k)) (a .before) ((t .0, cs) ∷ a .after) ∙ rw (s .is) (simp append-assoc);
+      number = omega (arith, s .number, length-append lead (words (suc k) (t .0) ∷ s .pre));
+    }
+
+puts-atom : (h : ℕ) (a : Branch 0) → Puts h 0 (λ ts. ts ++ (a ∷ [])) [] (words 0 a ∷ [])
+unfolding flat spotIn
+puts-atom h a = record { alone = refl; among = λ w from end ts order e. ins-end 0 w from end ts a order e }
+
+-- one level more
+module _ (h k : ℕ) (level : h + k ≡ 4) (low : 1 ≤ h) (key : Key) (p : Fields (suc k) → Bool) (new : Fields (suc k))
+    (f : List (Branch k) → List (Branch k)) (keys : List Key) (col : List Words) (finds : (d : Fields (suc k)) → marks h key (words (suc k) d) ≡ p d)
+    (puts : Puts (suc h) k f keys col) where
+  other : (r : Words) → h < kind r → marks h key r ≡ false
+  other r l = rw (ne-eqb (kind r) h (λ e. omega arith))
+
+  abbrev into : List (Branch (suc k)) → List (Branch (suc k))
+  into ts = upsert k (key .which) p new f ts
+
+  level-among : (w : List ℕ) (from end : ℕ) (ts : List (Branch (suc k))) → from ≤ end → between from end w ≡ bind (flat (suc k)) ts
+      → (o : Option ℕ) → pick (key .which) (λ t. p (t .0)) ts ≡ o → Same h k level (marks h key) other p finds (key .which) ts o
+      → Ins (suc k) ts (into ts) from (spotIn h (key ∷ keys) from end w .0) (drop (spotIn h (key ∷ keys) from end w .1) (words (suc k) new ∷ col))
+  unfolding upsert spotIn flat
+  level-among w from end ts order e none q s =
+      let r : pick (key .which) (marks h key) (between from end w) ≡ none = rw e s in
+      rw (q, r, ← puts .alone) (ins-end (suc k) w from end ts (new, f []) order e)
+  level-among w from end ts order e (some i) q s =
+      let t = s .0 in
+      let a = s .1 in
+      let r : pick (key .which) (marks h key) (between from end w) ≡ some (length (bind (flat (suc k)) (a .before))) = rw e (s .2) in
+      let span = pick-there h k level w from end i ts t a low order e key r in
+      let kids = kids-below h k level w from end i ts t a low order e in
+      rw (q, span) (ins-below k i ts _ t (f (t .1)) from _ _ a (a .is (λ u. (u .0, f (u .1)) ∷ [])) (puts .among w _ _ (t .1) (omega arith) kids))
+
+  puts-level : Puts h (suc k) into (key ∷ keys) (words (suc k) new ∷ col)
+  unfolding upsert flat
+  puts-level =
+      record {
+        alone = go (key .which);
+        among = λ w from end ts order e. level-among w from end ts order e _ refl (picked h k level (marks h key) other p finds (key .which) ts);
+      }
+    where
+      go : (v : Which) → bind (flat (suc k)) (upsert k v p new f []) ≡ words (suc k) new ∷ col
+      go first = rw (append-nil, puts .alone)
+      go last = rw (append-nil, puts .alone)
+
+-- ---- an atom in a model
+
+and-right : (b : Bool) → b && true ≡ b
+and-right true = refl
+and-right false = refl
+
+-- a new chain's, residue's, conformer's and atom's records
+abbrev pub column : Names.Names → ℕ → Values.NewAtom → List Words
+column n residue v =
+    words 3 (record { id = n .chain })
+    ∷ words 2 (record { serial = residue; code = n .code })
+    ∷ words 1 (record { name = n .conformer; location = n .location })
+    ∷ words 0 (atomOf v (n .name))
+    ∷ []
+
+-- the three levels below a model
+pub puts-chains : (a : NewAtom) (n : Names.Names) (v : Values.NewAtom) → newAtom a (preparedOf n) ≡ atomOf v (n .name)
+    → Puts 2 3 (intoChains a (preparedOf n)) (keysOf n (a .residue) (a .code) (a .location)) (column n (a .residue) v)
+unfolding words
+puts-chains a n v e =
+    puts-level 2 2 refl (omega arith) _ _ _ _ _ _ (λ d. and-right (eqb (d .id) (n .chain)))
+    (puts-level 3 1 refl (omega arith) _ _ _ _ _ _ (λ d. refl)
+    (puts-level 4 0 refl (omega arith) _ _ _ _ _ _ (λ d. refl) (rw e (puts-atom 5 (atomOf v (n .name))))))
+
+-- in a machine whose model at a position has its children changed
+pub ins-machine : (i : ℕ) (m : Machine) (t : Branch 4) (cs : List (Branch 3)) (n at : ℕ) (new : List Words) (s : Spot 0 4 (i ∷ []) m t) → n ≡ length (s .pre) + 1
+    → Ins 3 (t .1) cs n at new → Ins 4 m (replaceAt 0 4 (i ∷ []) ((t .0, cs) ∷ []) m) 0 at new
+unfolding flat
+ins-machine i m t cs n at new s e r =
+    record {
+      pre = s .pre ++ (words 4 (t .0) ∷ r .pre);
+      post = r .post ++ s .post;
+      was = s .was ∙ rw (r .was) (simp append-assoc);
+      is = s .is ((t .0, cs) ∷ []) ∙ rw (r .is) (simp (append-assoc, append-nil));
+      number = omega (arith, r .number, length-append (s .pre) (words 4 (t .0) ∷ r .pre));
+    }
+
+-- a model after all others
+pub ins-model : (m : Machine) (t : Branch 4) → Ins 4 m (m ++ (t ∷ [])) 0 (length (bind (flat 4) m)) (flat 4 t)
+ins-model m t =
+    record { pre = bind (flat 4) m; post = []; was = sym (append-nil _); is = bind-append (flat 4) m (t ∷ []); number = sym (zero-add _) }

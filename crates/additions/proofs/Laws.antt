@@ -1,0 +1,500 @@
+-- What each loop keeps, and what each return gives. Assumes nothing.
+use Prim.Native.Nat.{ℕ, suc, _+_, _-_, _*_, _≤_, _<_}
+use mathlib.Core.Path.{_≡_, refl, sym, ap, _∙_, subst}
+use mathlib.Core.Bool.{Bool, true, false, _&&_}
+use mathlib.Core.List.{List, [], _∷_, _++_, append-nil}
+use mathlib.Core.Option.{Option, none, some, Option·map}
+use native.Mathlib.Nat.{add-zero}
+use native.Mathlib.Numerals.{add-one}
+use native.Mathlib.Omega.{arith}
+use lib.ListN.{length, take, drop, getD, set, replicate, length-append, length-take, length-drop, length-replicate}
+use lib.Seq.{take-at, drop-at, drop-drop, getD-take, getD-drop, length-take-le, take-all}
+use lib.Dec.{leb}
+use borrow.Author.Tests.{eq-eqb, ne-eqb, le-leb, lt-leb}
+use Rattle.machine.specs.Lists.{orElse, bind, andThen}
+use Rattle.machine.specs.Answer.{ok, refused, editedNumbers}
+use Rattle.machine.specs.Text.{Optional, chainId, insertionCode, conformerName, alternativeLocation, atomName, optional, matchesOptional}
+use Rattle.machine.specs.Record.{Words, words, finite, goodValues}
+use Rattle.machine.specs.Store.{Branch, Machine, flat, records, stored, capacity, laid, layOut, chunks}
+use Rattle.machine.specs.Edit.{NewAtom, Which, first, last, pick, accept, prepare, intoChains, replaceAt, fits, addModel, addAtom, relaid}
+use Rattle.machine.specs.declared.Prepared.{Prepared}
+use Rattle.machine.specs.declared.Prepared.the-variants.{Stored, Absent, Bad}
+use Rattle.machine.specs.declared.Name.{Name}
+use Rattle.machine.specs.declared.Name.the-variants.{ChainId, InsertionCode, ConformerName, AlternativeLocation, AtomName}
+use Rattle.machine.specs.declared.Refusal.the-variants.{NoPosition, BadIdentifier, BadValue, NoCapacity}
+use Rattle.machine.specs.declared.Edited as Edited
+use Rattle.laws.specs.Lists.{All-append, All-left, All-right, sum-append}
+use Rattle.laws.specs.Grouped.{concat, concat-length, twelve-words, chunks-length}
+use Rattle.laws.specs.Layout.{laid-length, layOut-read, read-length, read-parts, length-parts}
+use Rattle.moves.specs.Over.{over, gapped}
+use Rattle.moves.proofs.Laws.{over-at}
+use Rattle.moves.proofs.Records.{Twelve, twelve-take, twelve-drop, blank, blank-twelve, insert-laid, write-laid, drop-records}
+use Rattle.seek.specs.Seek.{held, Good, Within, recordAt, between, run, toEnd, isAtom, atomRecords, span, spanOf}
+use Rattle.seek.specs.Below.{between-cons, between-nil, record-kind, end-within}
+use Rattle.seek.specs.Laws.{records-count, atoms-stored, Stands, found, missing, stands-within, stands-records}
+use Rattle.seek.specs.declared.Span as Span
+use Rattle.additions.specs.Add.{Key, whichOf, keyOf, marks, pickStart, pickSpan, childOf, spotStep, spotIn, keysOf, placeOf, columnWords, preparedOf, resultOf, given, named, atomOf, wordOf, put}
+use Rattle.additions.specs.declared.NewAtom as Values
+use Rattle.additions.specs.declared.Names as Names
+use Rattle.additions.specs.declared.Word as Word
+use Rattle.additions.specs.declared.Readied as Readied
+use Rattle.additions.specs.declared.Child as Child
+use Rattle.additions.specs.declared.Spot as Spot
+use Rattle.additions.proofs.Column.{column, or-none, pick-pass, pick-within, Ins, puts-chains, ins-machine, ins-model}
+
+-- ---- new records in a store
+
+-- new records at record x, in a store that holds others
+put-laid : (n x : ℕ) (rs new : List Words) → Twelve rs → Twelve new → x ≤ length rs → 12 * (length rs + length new) < n
+    → put x (length rs) (concat new) (laid n (concat rs)) ≡ laid n (concat (take x rs ++ (new ++ drop x rs)))
+unfolding put
+put-laid n x rs new t tn h f =
+    let m : ℕ = length new in
+    let l : length (concat new) ≡ 12 * m = concat-length new tn in
+    let all : length (concat rs) ≡ 12 * length rs = concat-length rs t in
+    let gap : List Words = take x rs ++ (blank m ++ drop x rs) in
+    let tg : Twelve gap = All-append _ (take x rs) _ (twelve-take x rs t) (All-append _ (blank m) _ (blank-twelve m) (twelve-drop x rs t)) in
+    let q : 12 * length rs + 12 * m ≡ 12 * (length rs + m) = omega arith in
+    let room : length gap ≡ length rs + m = simp (length-append, length-take, length-drop, length-replicate) (omega arith) in
+    let low : length (take x rs) ≡ x = length-take-le x rs h in
+    let o : over x new gap ≡ take x rs ++ (new ++ drop x rs) =
+    over-at (take x rs) (blank m) (drop x rs) x (x + m) low (ap (λ (k : ℕ). x + k) (length-replicate m (replicate 12 0))) new (sym (length-replicate m (replicate 12 0))) in
+    rw (laid-length n (concat rs) (omega arith), l, q, insert-laid n rs t x m h f, write-laid n gap tg new x tn (omega arith), o)
+
+-- the machine that is written, where records are put in
+module _ (w : List ℕ) (g : Good w) (m : Machine) (at : ℕ) (new : List Words) (s : Ins 4 (held w) m 0 at new) where
+  -- where they go, and how many there are then
+  put-low : at ≤ length (records (held w))
+  put-low = omega (arith, s .number, ap length (s .was), length-append (s .pre) (s .post))
+
+  grown : length (records m) ≡ length (records (held w)) + length new
+  grown =
+      omega (arith, ap length (s .was), length-append (s .pre) (s .post), ap length (s .is), length-append (s .pre) (new ++ s .post), length-append new (s .post))
+
+  -- "an addition gives removed 0"
+  kept-atoms : stored (held w) - stored m ≡ 0
+  unfolding atomRecords
+  kept-atoms =
+      omega (
+        arith,
+        atoms-stored (held w),
+        atoms-stored m,
+        ap atomRecords (s .was),
+        sum-append isAtom (s .pre) (s .post),
+        ap atomRecords (s .is),
+        sum-append isAtom (s .pre) (new ++ s .post),
+        sum-append isAtom new (s .post),
+      )
+
+  put-full : (x y : ℕ) → x ≡ capacity (length w) → y ≡ length (records (held w)) + length new → x < y
+      → (editedNumbers (Edited.the-variants.Refused NoCapacity), w) ≡ relaid w (held w) (fits (length w) m)
+  put-full x y e f l = rw (lt-leb (length (records m)) (capacity (length w)) (omega (arith, grown)))
+
+  new-twelve : Twelve new
+  new-twelve = All-left _ new (s .post) (All-right _ (s .pre) (new ++ s .post) (subst Twelve (s .is) (twelve-words m)))
+
+  put-done : (x y : ℕ) (s′ : List ℕ) → x ≡ capacity (length w) → y ≡ length (records (held w)) + length new → y ≤ x → s′ ≡ put at (length (records (held w))) (concat new) w
+      → (editedNumbers (Edited.the-variants.Done 1 0), s′) ≡ relaid w (held w) (fits (length w) m)
+  unfolding layOut
+  put-done x y s′ e f l q =
+      let n = length-parts (length w) (read-length w (held w) g) .0 in
+      let rs = records (held w) in
+      let a = s .number in
+      let p : length (s .pre) ≡ at = omega arith in
+      let front : take at rs ≡ s .pre = ap (take at) (s .was) ∙ take-at (s .pre) (s .post) at p in
+      let back : drop at rs ≡ s .post = ap (drop at) (s .was) ∙ drop-at (s .pre) (s .post) at p in
+      let r : put at (length rs) (concat new) w ≡ laid (length w) (concat (records m)) =
+      ap (put at (length rs) (concat new)) (sym (layOut-read w (held w) g))
+      ∙ put-laid (length w) at rs new (twelve-words (held w)) new-twelve put-low (omega arith)
+      ∙ rw (front, back, s .is) in
+      rw (le-leb (length (records m)) (capacity (length w)) (omega (arith, grown)), kept-atoms, q, r)
+
+-- ---- word_of and ready
+
+pub word-is : (p : Prepared) (w : ℕ) → p ≡ Stored w → Word.the-variants.Is w ≡ wordOf p
+word-is p w e = rw e
+
+pub word-absent : (p : Prepared) → p ≡ Absent → Word.the-variants.Is 0 ≡ wordOf p
+word-absent p e = rw e
+
+pub word-bad : (p : Prepared) → p ≡ Bad → Word.the-variants.Bad ≡ wordOf p
+word-bad p e = rw e
+
+-- what word_of tells of a prepared name
+pub accepted : (n : Name) (p q : Prepared) (r : Word.Word) (w : ℕ) → p ≡ q → r ≡ wordOf p → r ≡ Word.the-variants.Is w → accept n q ≡ ok w
+accepted n p q r w d e f = go q (ap wordOf (sym d) ∙ sym e ∙ f)
+  where
+    go : (x : Prepared) → wordOf x ≡ Word.the-variants.Is w → accept n x ≡ ok w
+    go (Stored v) h = let z : v ≡ w = cc in rw z
+    go Absent h = let z : 0 ≡ w = cc in rw z
+    go Bad h = let z : _≡_ {A = ℕ} 0 1 = cc in absurd (omega arith)
+
+pub declined : (n : Name) (p q : Prepared) (r : Word.Word) → p ≡ q → r ≡ wordOf p → r ≡ Word.the-variants.Bad → accept n q ≡ refused BadIdentifier
+declined n p q r d e f = go n q (ap wordOf (sym d) ∙ sym e ∙ f)
+  where
+    go : (m : Name) (x : Prepared) → wordOf x ≡ Word.the-variants.Bad → accept m x ≡ refused BadIdentifier
+    go m (Stored v) h = let z : _≡_ {A = ℕ} 0 1 = cc in absurd (omega arith)
+    go m Absent h = let z : _≡_ {A = ℕ} 0 1 = cc in absurd (omega arith)
+    go ChainId Bad h = refl
+    go InsertionCode Bad h = refl
+    go ConformerName Bad h = refl
+    go AlternativeLocation Bad h = refl
+    go AtomName Bad h = refl
+
+-- the first name that is bad, and all five
+module _ (a : NewAtom) where
+  pub bad-chain : accept ChainId (chainId (a .chain)) ≡ refused BadIdentifier → refused BadIdentifier ≡ prepare a
+  unfolding prepare
+  bad-chain e = rw e
+
+  module _ (w₁ : ℕ) (e₁ : accept ChainId (chainId (a .chain)) ≡ ok w₁) where
+    pub bad-code : accept InsertionCode (optional insertionCode (a .code)) ≡ refused BadIdentifier → refused BadIdentifier ≡ prepare a
+    unfolding prepare
+    bad-code e = rw (e₁, e)
+
+    module _ (w₂ : ℕ) (e₂ : accept InsertionCode (optional insertionCode (a .code)) ≡ ok w₂) where
+      pub bad-conformer : accept ConformerName (conformerName (a .conformer)) ≡ refused BadIdentifier → refused BadIdentifier ≡ prepare a
+      unfolding prepare
+      bad-conformer e = rw (e₁, e₂, e)
+
+      module _ (w₃ : ℕ) (e₃ : accept ConformerName (conformerName (a .conformer)) ≡ ok w₃) where
+        pub bad-location : accept AlternativeLocation (optional alternativeLocation (a .location)) ≡ refused BadIdentifier → refused BadIdentifier ≡ prepare a
+        unfolding prepare
+        bad-location e = rw (e₁, e₂, e₃, e)
+
+        module _ (w₄ : ℕ) (e₄ : accept AlternativeLocation (optional alternativeLocation (a .location)) ≡ ok w₄) where
+          pub bad-name : accept AtomName (atomName (a .name)) ≡ refused BadIdentifier → refused BadIdentifier ≡ prepare a
+          unfolding prepare
+          bad-name e = rw (e₁, e₂, e₃, e₄, e)
+
+          module _ (w₅ : ℕ) (e₅ : accept AtomName (atomName (a .name)) ≡ ok w₅) where
+            pub all-ready : ok (record { chain = w₁; code = w₂; conformer = w₃; location = w₄; name = w₅ }) ≡ prepare a
+            unfolding prepare
+            all-ready = rw (e₁, e₂, e₃, e₄, e₅)
+
+-- ---- good_values
+
+all-good : (a b c d e f g : Bool) → (((a && b) && c) && (d && e)) && f && g ≡ (a && (b && (c && (d && (e && true))))) && f && g
+all-good false b c d e f g = refl
+all-good true false c d e f g = refl
+all-good true true false d e f g = refl
+all-good true true true false e f g = refl
+all-good true true true true false f g = refl
+all-good true true true true true f g = refl
+
+pub values-good : (v : Values.NewAtom) (a b c d e : Bool)
+    → a ≡ finite (v .x) → b ≡ finite (v .y) → c ≡ finite (v .z) → d ≡ finite (v .occupancy) → e ≡ finite (v .«b_factor»)
+    → (((a && b) && c) && (d && e)) && leb (v .element) 118 && leb (v .hetero) 1 ≡ goodValues (atomOf v 0)
+unfolding goodValues
+values-good v a b c d e x y z o f = all-good a b c d e (leb (v .element) 118) (leb (v .hetero) 1) ∙ rw (x, y, z, o, f)
+
+-- ---- is_marked
+
+-- a word of a record
+record-word : (w : List ℕ) (at j : ℕ) → j < 12 → getD (recordAt at w) j 0 ≡ getD w (at * 12 + j) 0
+record-word w at j l = getD-take 12 (drop (at * 12) w) j 0 l ∙ getD-drop (at * 12) w j 0
+
+module _ (w : List ℕ) (at h word flag : ℕ) (text : List ℕ) where
+  pub unmarked-kind : (getD w (at * 12) 0 ≡ h → ⊥) → false ≡ marks h (keyOf false word flag text) (recordAt at w)
+  unmarked-kind n = rw (record-kind w at, ne-eqb (getD w (at * 12) 0) h n)
+
+  pub unmarked-word : getD w (at * 12) 0 ≡ h → (getD w (at * 12 + 1) 0 ≡ word → ⊥) → false ≡ marks h (keyOf false word flag text) (recordAt at w)
+  unmarked-word e n = rw (record-kind w at, record-word w at 1 (omega arith), eq-eqb (getD w (at * 12) 0) h e, ne-eqb (getD w (at * 12 + 1) 0) word n)
+
+  pub marked : (r : Bool) → getD w (at * 12) 0 ≡ h → getD w (at * 12 + 1) 0 ≡ word → r ≡ matchesOptional (record { flag = flag; text = text }) (getD w (at * 12 + 2) 0)
+      → r ≡ marks h (keyOf false word flag text) (recordAt at w)
+  marked r e f q =
+      rw (record-kind w at, record-word w at 1 (omega arith), record-word w at 2 (omega arith), eq-eqb (getD w (at * 12) 0) h e, eq-eqb (getD w (at * 12 + 1) 0) word f) q
+
+-- ---- find
+
+abbrev pub optionOf : Child.Child → Option ℕ
+optionOf (Child.the-variants.At n) = some n
+optionOf Child.the-variants.Missing = none
+
+child-option : (c : Child.Child) → childOf (optionOf c) ≡ c
+child-option (Child.the-variants.At n) = refl
+child-option Child.the-variants.Missing = refl
+
+-- what is found among the records left, or else the best so far
+pub record Searched (w : List ℕ) (from end h : ℕ) (key : Key) (at : ℕ) (best : Child.Child) : Type 0 where
+  pub low : at ≤ end
+  pub same : pickStart h key from (between from end w) ≡ orElse (pickStart h key at (between at end w)) (optionOf best)
+
+pub search-begin : (w : List ℕ) (from end h : ℕ) (key : Key) → Within from end w → Searched w from end h key from Child.the-variants.Missing
+search-begin w from end h key b = record { low = b .order; same = sym (or-none _) }
+
+start-pass : (h : ℕ) (key : Key) (n : ℕ) (r : Words) (rs : List Words) → marks h key r ≡ false → pickStart h key n (r ∷ rs) ≡ pickStart h key (n + 1) rs
+start-pass h key n r rs e = rw (pick-pass (marks h key) (key .which) r rs e) (go (pick (key .which) (marks h key) rs))
+  where
+    go : (o : Option ℕ) → andThen (Option·map suc o) (λ i. some (n + i)) ≡ andThen o (λ i. some (n + 1 + i))
+    go none = refl
+    go (some i) = ap some (omega arith)
+
+start-first : (h n : ℕ) (key : Key) (r : Words) (rs : List Words) → key .which ≡ first → marks h key r ≡ true → pickStart h key n (r ∷ rs) ≡ some n
+start-first h n key r rs d e = rw (d, e, add-zero)
+
+start-last : (h n : ℕ) (key : Key) (r : Words) (rs : List Words) (o : Option ℕ) → key .which ≡ last → marks h key r ≡ true
+    → orElse (pickStart h key n (r ∷ rs)) o ≡ orElse (pickStart h key (n + 1) rs) (some n)
+start-last h n key r rs o d e = rw (d, e) (go (pick last (marks h key) rs))
+  where
+    go : (p : Option ℕ) → orElse (andThen (orElse (Option·map suc p) (some 0)) (λ i. some (n + i))) o ≡ orElse (andThen p (λ i. some (n + 1 + i))) (some n)
+    go none = ap some (add-zero n)
+    go (some i) = ap some (omega arith)
+
+module _ (w : List ℕ) (from end h word flag : ℕ) (text : List ℕ) (b : Bool) (at : ℕ) (best : Child.Child) (s : Searched w from end h (keyOf b word flag text) at best) (l : at < end) where
+  abbrev key : Key
+  key = keyOf b word flag text
+
+  pub search-pass : (m : Bool) → m ≡ marks h (keyOf false word flag text) (recordAt at w) → m ≡ false → Searched w from end h key (at + 1) best
+  search-pass m d e =
+      record {
+        low = omega arith;
+        same = s .same ∙ rw (between-cons w end at l, start-pass h key at (recordAt at w) (between (at + 1) end w) (sym d ∙ e));
+      }
+
+  pub search-on : (m : Bool) → m ≡ marks h (keyOf false word flag text) (recordAt at w) → m ≡ true → b ≡ true → Searched w from end h key (at + 1) (Child.the-variants.At at)
+  search-on m d e f =
+      record {
+        low = omega arith;
+        same = s .same ∙ rw (between-cons w end at l, start-last h at key (recordAt at w) (between (at + 1) end w) (optionOf best) (ap whichOf f) (sym d ∙ e));
+      }
+
+  pub search-hit : (m : Bool) → m ≡ marks h (keyOf false word flag text) (recordAt at w) → m ≡ true → b ≡ false → Child.the-variants.At at ≡ childOf (pickStart h key from (between from end w))
+  search-hit m d e f =
+      let q : pickStart h key from (between from end w) ≡ some at =
+      s .same ∙ rw (between-cons w end at l, start-first h at key (recordAt at w) (between (at + 1) end w) (ap whichOf f) (sym d ∙ e)) in
+      rw q
+
+pub search-end : (w : List ℕ) (from end h : ℕ) (key : Key) (at : ℕ) (best : Child.Child) → Searched w from end h key at best → end ≤ at → best ≡ childOf (pickStart h key from (between from end w))
+search-end w from end h key at best s l =
+    let q : pickStart h key from (between from end w) ≡ optionOf best = s .same ∙ rw (between-nil w end at l) (go (key .which)) in
+    rw q (sym (child-option best))
+  where
+    go : (v : Which) → orElse (andThen (pick v (marks h key) []) (λ i. some (at + i))) (optionOf best) ≡ optionOf best
+    go first = refl
+    go last = refl
+
+-- ---- pick
+
+-- the record found, by its offset
+pub record Met (h : ℕ) (key : Key) (from end : ℕ) (w : List ℕ) (at : ℕ) : Type 0 where
+  pub offset : ℕ
+  pub there : pick (key .which) (marks h key) (between from end w) ≡ some offset
+  pub number : from + offset ≡ at
+  pub below : at < end
+
+module _ (w : List ℕ) (h : ℕ) (key : Key) (from end : ℕ) (r : Child.Child) (e : r ≡ childOf (pickStart h key from (between from end w))) where
+  pub pick-missing : r ≡ Child.the-variants.Missing → Span.the-variants.Missing ≡ spanOf (pickSpan h key from (between from end w))
+  pick-missing m = go (pick (key .which) (marks h key) (between from end w)) (sym e ∙ m)
+    where
+      go : (o : Option ℕ) → childOf (andThen o (λ i. some (from + i))) ≡ Child.the-variants.Missing → Span.the-variants.Missing ≡ spanOf (andThen o (λ i. toEnd h (from + i) (drop (suc i) (between from end w))))
+      go none q = refl
+      go (some i) q = let z : _≡_ {A = ℕ} 0 1 = cc in absurd (omega arith)
+
+  module _ (at : ℕ) (b : Within from end w) (m : r ≡ Child.the-variants.At at) where
+    met : Met h key from end w at
+    met = go (pick (key .which) (marks h key) (between from end w)) refl (sym e ∙ m)
+      where
+        go : (o : Option ℕ) → pick (key .which) (marks h key) (between from end w) ≡ o → childOf (andThen o (λ i. some (from + i))) ≡ Child.the-variants.At at → Met h key from end w at
+        go none q p = let z : _≡_ {A = ℕ} 0 1 = cc in absurd (omega arith)
+        go (some i) q p =
+            let n : from + i ≡ at = cc in
+            record {
+              offset = i;
+              there = q;
+              number = n;
+              below = omega (arith, b .order, pick-within (marks h key) (key .which) (between from end w) i q, length-drop from (chunks end w), chunks-length end w);
+            }
+
+    pub pick-after : Within (at + 1) end w
+    pick-after = record { order = omega (arith, met .below); room = b .room }
+
+    pub pick-is : (stop : ℕ) → stop ≡ at + 1 + run h (between (at + 1) end w) → Span.the-variants.At at stop ≡ spanOf (pickSpan h key from (between from end w))
+    pick-is stop f =
+        let q : from + suc (met .offset) ≡ at + 1 = omega (arith, met .number) in
+        let g : stop ≡ suc at + run h (between (at + 1) end w) = f ∙ ap (λ (x : ℕ). x + run h (between (at + 1) end w)) (add-one at) in
+        rw (met .there, drop-drop (suc (met .offset)) from (chunks end w), q, met .number, g)
+
+-- ---- spot_of
+
+module _ (w : List ℕ) (h : ℕ) (key : Key) (from end : ℕ) (r : Span.Span) (e : r ≡ spanOf (pickSpan h key from (between from end w))) where
+  pub spot-missing : (keys : List Key) → r ≡ Span.the-variants.Missing → spotIn h (key ∷ keys) from end w ≡ (end, 0)
+  unfolding spotIn
+  spot-missing keys m = go (pickSpan h key from (between from end w)) (sym e ∙ m)
+    where
+      go : (o : Option (ℕ × ℕ)) → spanOf o ≡ Span.the-variants.Missing → spotStep o (end, 0) (λ s. spotIn (suc h) keys (s .0 + 1) (s .1) w) ≡ (end, 0)
+      go none q = refl
+      go (some s) q = let z : _≡_ {A = ℕ} 0 1 = cc in absurd (omega arith)
+
+  module _ (start stop : ℕ) (m : r ≡ Span.the-variants.At start stop) where
+    pub spot-within : Within from end w → Within (start + 1) stop w
+    spot-within b = go (pick (key .which) (marks h key) (between from end w)) refl (sym e ∙ m)
+      where
+        go : (o : Option ℕ) → pick (key .which) (marks h key) (between from end w) ≡ o → spanOf (andThen o (λ i. toEnd h (from + i) (drop (suc i) (between from end w)))) ≡ Span.the-variants.At start stop → Within (start + 1) stop w
+        go none q p = let z : _≡_ {A = ℕ} 0 1 = cc in absurd (omega arith)
+        go (some i) q p =
+            let x : from + i ≡ start = cc in
+            let y : suc (from + i) + run h (drop (suc i) (between from end w)) ≡ stop = cc in
+            let l = pick-within (marks h key) (key .which) (between from end w) i q in
+            let n = length-drop from (chunks end w) in
+            let c = chunks-length end w in
+            let o = b .order in
+            let f : from + suc i ≡ start + 1 = omega arith in
+            let z : drop (suc i) (between from end w) ≡ between (start + 1) end w = drop-drop (suc i) from (chunks end w) ∙ ap (λ (k : ℕ). drop k (chunks end w)) f in
+            let v : run h (drop (suc i) (between from end w)) ≡ run h (between (start + 1) end w) = ap (run h) z in
+            let t = end-within w (start + 1) end h (record { order = omega arith; room = b .room }) in
+            record { order = omega arith; room = omega (arith, b .room) }
+
+    pub spot-on : (keys : List Key) (at n : ℕ) → spotIn (suc h) keys (start + 1) stop w ≡ (at, n) → spotIn h (key ∷ keys) from end w ≡ (at, suc n)
+    unfolding spotIn
+    spot-on keys at n f = go (pickSpan h key from (between from end w)) (sym e ∙ m)
+      where
+        go : (o : Option (ℕ × ℕ)) → spanOf o ≡ Span.the-variants.At start stop → spotStep o (end, 0) (λ s. spotIn (suc h) keys (s .0 + 1) (s .1) w) ≡ (at, suc n)
+        go none q = let z : _≡_ {A = ℕ} 0 1 = cc in absurd (omega arith)
+        go (some s) q =
+            let x : s .0 ≡ start = cc in
+            let y : s .1 ≡ stop = cc in
+            rw (x, y, f)
+
+pub spot-none : (h from end : ℕ) (w : List ℕ) → spotIn h [] from end w ≡ (end, 0)
+unfolding spotIn
+spot-none h from end w = refl
+
+-- ---- put_records
+
+pub put-is : (x n : ℕ) (new w s s′ : List ℕ) → s ≡ gapped (12 * x) (length new) (12 * n) w → s′ ≡ over (12 * x) new (set s (length w - 1) (12 * n + length new)) → s′ ≡ put x n new w
+unfolding put
+put-is x n new w s s′ d e = rw e (rw d)
+
+-- ---- add_model
+
+-- a good store has a word for its trailer
+pub good-length : (w : List ℕ) → Good w → 1 ≤ length w
+good-length w g = length-parts (length w) (read-length w (held w) g) .0
+
+-- as many records as the largest store has room for, at most
+pub good-count : (w : List ℕ) → Good w → length (records (held w)) ≤ 100000
+good-count w g =
+    let c = records-count w (held w) g in
+    let l = read-parts w (held w) g .low in
+    let n = length-parts (length w) (read-length w (held w) g) .1 in
+    omega arith
+
+module _ (w : List ℕ) (g : Good w) (serial x count : ℕ) (e : x ≡ capacity (length w)) (f : count ≡ length (records (held w))) where
+  abbrev model : Branch 4
+  model = (record { serial = serial }, [])
+
+  pub model-full : x < count + 1 → (editedNumbers (Edited.the-variants.Refused NoCapacity), w) ≡ relaid w (held w) (addModel (length w) serial (held w))
+  unfolding addModel flat
+  model-full l = put-full w g _ _ _ (ins-model (held w) model) x (count + 1) e (rw f) l
+
+  pub model-done : (s′ : List ℕ) → count + 1 ≤ x → s′ ≡ put count count (1 ∷ serial ∷ 0 ∷ 0 ∷ 0 ∷ 0 ∷ 0 ∷ 0 ∷ 0 ∷ 0 ∷ 0 ∷ 0 ∷ []) w
+      → (editedNumbers (Edited.the-variants.Done 1 0), s′) ≡ relaid w (held w) (addModel (length w) serial (held w))
+  unfolding addModel flat words
+  model-done s′ l q =
+      put-done w g _ _ _ (ins-model (held w) model) x (count + 1) s′ e (rw f) l (q ∙ rw f)
+
+-- ---- add_atom
+
+-- the words of the column's records from one on
+column-part : (n : Names.Names) (residue : ℕ) (v : Values.NewAtom) (x : ℕ) → x ≤ 4
+    → take (48 - 12 * x) (drop (12 * x) (columnWords n residue v)) ≡ concat (drop x (column n residue v))
+unfolding words
+column-part n residue v x l =
+    let col = column n residue v in
+    let t : Twelve col = (refl, (refl, (refl, (refl, tt)))) in
+    let d : drop (12 * x) (concat col) ≡ concat (drop x col) = sym (ap (drop (12 * x)) (append-nil (concat col))) ∙ drop-records col [] t x l ∙ append-nil (concat (drop x col)) in
+    let c : length (concat (drop x col)) ≡ 48 - 12 * x = omega (arith, concat-length (drop x col) (twelve-drop x col t), length-drop x col) in
+    rw d (take-all (48 - 12 * x) (concat (drop x col)) (omega arith))
+
+-- refusal 7 does not look at the name
+values-only : (v : Values.NewAtom) (name : ℕ) → goodValues (atomOf v name) ≡ goodValues (atomOf v 0)
+unfolding goodValues
+values-only v name = refl
+
+module _ (w : List ℕ) (g : Good w) (i : ℕ) (chain : List ℕ) (residue : ℕ) (code : Optional) (conformer : List ℕ) (location : Optional) (name : List ℕ) (v : Values.NewAtom)
+    (r : Span.Span) (e : r ≡ spanOf (span (i ∷ []) (held w))) where
+  abbrev atom : NewAtom
+  atom = given chain residue code conformer location name v
+
+  abbrev outcome : List ℕ × List ℕ
+  outcome = relaid w (held w) (addAtom (length w) i atom (held w))
+
+  pub atom-nowhere : r ≡ Span.the-variants.Missing → (editedNumbers (Edited.the-variants.Refused NoPosition), w) ≡ outcome
+  unfolding addAtom
+  atom-nowhere m = rw (missing 0 4 (i ∷ []) 0 (held w) (sym e ∙ m))
+
+  module _ (start stop : ℕ) (m : r ≡ Span.the-variants.At start stop) where
+    stands : Stands 0 4 (i ∷ []) 0 (held w) start stop
+    stands = found 0 4 (i ∷ []) 0 (held w) start stop (sym e ∙ m)
+
+    abbrev there : Branch 4
+    there = stands .branch
+
+    long : start + 1 ≤ stop
+    unfolding flat
+    long = omega (arith, stands .last)
+
+    pub chains-within : Within (start + 1) stop w
+    chains-within = record { order = long; room = stands-within w g 0 4 (i ∷ []) (held w) start stop refl stands .room }
+
+    chains : between (start + 1) stop w ≡ bind (flat 3) (there .1)
+    unfolding flat
+    chains =
+        let x = between-cons w stop start (omega (arith, long)) in
+        let y = stands-records w g 0 4 (i ∷ []) (held w) start stop refl stands in
+        cc
+
+    module _ (o : Readied.Readied) (q : resultOf o ≡ prepare (named chain code conformer location name)) where
+      -- the names go by no other argument
+      prepared : resultOf o ≡ prepare atom
+      unfolding prepare
+      prepared = q
+
+      pub atom-unnamed : o ≡ Readied.the-variants.Bad → (editedNumbers (Edited.the-variants.Refused BadIdentifier), w) ≡ outcome
+      unfolding addAtom
+      atom-unnamed z = rw (stands .there, ← prepared, z)
+
+      module _ (n : Names.Names) (z : o ≡ Readied.the-variants.Ready n) (b : Bool) (f : b ≡ goodValues (atomOf v 0)) where
+        pub atom-bad : b ≡ false → (editedNumbers (Edited.the-variants.Refused BadValue), w) ≡ outcome
+        unfolding addAtom
+        atom-bad t = rw (stands .there, ← prepared, z, values-only v (n .name), ← f, t)
+
+        abbrev after : Machine
+        after = replaceAt 0 4 (i ∷ []) ((there .0, intoChains atom (preparedOf n) (there .1)) ∷ []) (held w)
+
+        abbrev place : ℕ × ℕ
+        place = spotIn 2 (keysOf n residue code location) (start + 1) stop w
+
+        put-atom : Ins 4 (held w) after 0 (place .0) (drop (place .1) (column n residue v))
+        put-atom =
+            let x = stands .first in
+            ins-machine i (held w) there _ (start + 1) _ _ (stands .spot) (omega arith) (puts-chains atom n v refl .among w (start + 1) stop (there .1) long chains)
+
+        module _ (t : b ≡ true) (s : Spot.Spot) (h : placeOf s ≡ place) (low : s .1 ≤ 3) (count : ℕ) (c : count ≡ length (records (held w))) where
+          atom-fits : addAtom (length w) i atom (held w) ≡ fits (length w) after
+          unfolding addAtom
+          atom-fits = rw (stands .there, ← prepared, z, values-only v (n .name), ← f, t)
+
+          ins : Ins 4 (held w) after 0 (s .0) (drop (s .1) (column n residue v))
+          ins = subst (λ (p : ℕ × ℕ). Ins 4 (held w) after 0 (p .0) (drop (p .1) (column n residue v))) (sym h) put-atom
+
+          pub atom-at : s .0 ≤ count
+          atom-at = omega (arith, put-low w g after _ _ ins)
+
+          new-length : count + 4 - s .1 ≡ length (records (held w)) + length (drop (s .1) (column n residue v))
+          new-length = omega (arith, length-drop (s .1) (column n residue v))
+
+          pub atom-full : (x : ℕ) → x ≡ capacity (length w) → x < count + 4 - s .1 → (editedNumbers (Edited.the-variants.Refused NoCapacity), w) ≡ outcome
+          atom-full x d l = rw atom-fits (put-full w g after _ _ ins x (count + 4 - s .1) d new-length l)
+
+          module _ (x : ℕ) (d : x ≡ capacity (length w)) (l : count + 4 - s .1 ≤ x) where
+            pub atom-room : (col : List ℕ) → 12 * count + length (take (48 - 12 * s .1) (drop (12 * s .1) col)) < length w
+            atom-room col = omega (arith, length-take (48 - 12 * s .1) (drop (12 * s .1) col), good-length w g)
+
+            pub atom-done : (col s′ : List ℕ) → col ≡ columnWords n residue v → s′ ≡ put (s .0) count (take (48 - 12 * s .1) (drop (12 * s .1) col)) w
+                → (editedNumbers (Edited.the-variants.Done 1 0), s′) ≡ outcome
+            atom-done col s′ k y =
+                let part = column-part n residue v (s .1) (omega arith) in
+                rw atom-fits (put-done w g after _ _ ins x (count + 4 - s .1) s′ d new-length l (y ∙ rw (k, part, c)))

@@ -1,0 +1,365 @@
+-- The laws that the proofs of the functions apply. Assumes nothing.
+use Prim.Native.Nat.{ℕ, suc, _+_, _-_, _*_, _/_, _≤_, _<_}
+use mathlib.Core.Path.{_≡_, refl, sym, ap, _∙_}
+use mathlib.Core.Bool.{Bool, true, false, cond}
+use mathlib.Core.List.{List, [], _∷_, map, append-assoc}
+use native.Mathlib.Omega.{arith}
+use lib.ListN.{length, take, drop, getD, set, length-append, length-map}
+use lib.Seq.{sets-eq}
+use lib.Dec.{eqb, leb}
+use borrow.Author.Tests.{eq-eqb, ne-eqb, le-leb, leb-true, leb-false, lt-leb}
+use Rattle.machine.specs.Lists.{keep, those}
+use Rattle.machine.specs.Answer.{Result, ok, refused, _>>_, foundNumbers}
+use Rattle.machine.specs.Store.{Machine, records, stored, readStore}
+use Rattle.machine.specs.Kleene.{isHit}
+use Rattle.machine.specs.Query.{Names, treeValue, termValue, readTree, tables}
+use Rattle.machine.specs.Find.{Site, atomsOf, hitsIn, hitsOf, hitWords, written, findRun}
+use Rattle.machine.specs.declared.RecordNumbers.{RecordNumbers}
+use Rattle.machine.specs.declared.Tri.{Tri}
+use Rattle.machine.specs.declared.Node.{Node}
+use Rattle.machine.specs.declared.Refusal.{Refusal}
+use Rattle.machine.specs.declared.Refusal.the-variants.{ShortOutput}
+use Rattle.machine.specs.declared.Found as Found
+use Rattle.laws.specs.Lists.{All}
+use Rattle.laws.specs.Numbers.{five-numbers, atoms-stored}
+use Rattle.moves.specs.Over.{over}
+use Rattle.moves.proofs.Laws.{over-length, over-none, over-over}
+use Rattle.seek.specs.Seek.{between, held}
+use Rattle.seek.specs.Below.{record-kind, between-cons}
+use Rattle.seek.specs.Laws.{whole-within}
+use Rattle.store.specs.Store.{checkedBy}
+use Rattle.store.specs.Laws.{Held, good-store, refused-find}
+use Rattle.store.specs.declared.Checked as Checked
+use Rattle.search.specs.Nodes.{checked}
+use Rattle.search.specs.declared.CheckedTree as CheckedTree
+use Rattle.search.specs.Levels.{Inside, valueAt}
+use Rattle.walk.specs.Walk.{five, pick, enteredAt, depthAfter, foundIn, wrote, Levelled, UpTo, Ready, Asked, start}
+use Rattle.walk.specs.Laws.{whole-levels, found-whole}
+use Rattle.walk.proofs.Turns.{found-end, found-deep, found-next}
+
+-- ---- the numbers at hand
+
+up-pick : (n : ℕ) (b : Bool) (x y : RecordNumbers) → UpTo n x → UpTo n y → UpTo n (pick b x y)
+up-pick n true x y u v = u
+up-pick n false x y u v = v
+
+up-entered : (k n : ℕ) (at : RecordNumbers) → UpTo n at → UpTo n (enteredAt k n at)
+unfolding enteredAt
+up-entered k n at u =
+    up-pick n (eqb k 1) _ _ (record { model = omega arith; chain = u .chain; residue = u .residue; conformer = u .conformer; atom = u .atom })
+    (up-pick n (eqb k 2) _ _ (record { model = u .model; chain = omega arith; residue = u .residue; conformer = u .conformer; atom = u .atom })
+    (up-pick n (eqb k 3) _ _ (record { model = u .model; chain = u .chain; residue = omega arith; conformer = u .conformer; atom = u .atom })
+    (up-pick n (eqb k 4) _ _ (record { model = u .model; chain = u .chain; residue = u .residue; conformer = omega arith; atom = u .atom })
+    (record { model = u .model; chain = u .chain; residue = u .residue; conformer = u .conformer; atom = omega arith }))))
+
+up-next : (n : ℕ) (at : RecordNumbers) → UpTo n at → UpTo (n + 1) at
+up-next n at u =
+    record { model = omega (arith, u .model); chain = omega (arith, u .chain); residue = omega (arith, u .residue); conformer = omega (arith, u .conformer); atom = omega (arith, u .atom) }
+
+depth-high : (k : ℕ) → k ≤ 5 → (b : Bool) → cond b k (k - 1) ≤ 5
+depth-high k h true = h
+depth-high k h false = omega arith
+
+-- record n is entered by its kind
+pub entered-law : (n : ℕ) (at : RecordNumbers) {k j : ℕ} → k ≡ j → enteredAt j n at ≡ enteredAt k n at
+entered-law n at e = sym (ap (λ (i : ℕ). enteredAt i n at) e)
+
+pub after-law : (k : ℕ) {v x : Tri} {b c : Bool} → v ≡ x → b ≡ isHit v → b ≡ c → cond c k (k - 1) ≡ depthAfter k x
+after-law k e g h = ap (λ (y : Bool). cond y k (k - 1)) (sym h ∙ g ∙ ap isHit e)
+
+-- ---- counting
+
+-- `hits` are all, of which `found` stood before record n
+pub record Walking (w t residues atoms : List ℕ) (low end : ℕ) (hits : List (List ℕ)) (n d : ℕ) (at : RecordNumbers) (found : ℕ) : Type 0 where
+  pub order : n ≤ end
+  pub room : end * 12 ≤ length w
+  pub kinds : All Levelled (between n end w)
+  pub depth : d ≤ 5
+  pub numbers : UpTo n at
+  pub few : found ≤ n
+  pub all : found + length (foundIn w n end t low d at residues atoms) ≡ length hits
+
+pub walk-start : (w t residues atoms : List ℕ) (low from end d : ℕ) (at : RecordNumbers) → Ready w from end t d at
+    → Walking w t residues atoms low end (foundIn w from end t low d at residues atoms) from d at 0
+walk-start w t residues atoms low from end d at r =
+    record { order = r .within .order; room = r .within .room; kinds = r .kinds; depth = r .depth; numbers = r .numbers; few = omega arith; all = omega arith }
+
+module _ (w t residues atoms : List ℕ) (low end : ℕ) (hits : List (List ℕ)) (n d : ℕ) (at : RecordNumbers) (found : ℕ) (i : Walking w t residues atoms low end hits n d at found) where
+  abbrev k : ℕ
+  k = getD w (n * 12) 0
+
+  pub walk-end : end ≤ n → found ≡ length hits
+  walk-end h = omega (arith, i .all, ap length (found-end w t residues atoms low end n d at h))
+
+  module _ (more : n < end) where
+    split : All Levelled (take 12 (drop (n * 12) w) ∷ between (n + 1) end w)
+    split = rw (between-cons w end n more) at (i .kinds)
+
+    pub least : 1 ≤ k
+    least = omega (arith, split .0 .low, record-kind w n)
+
+    most : k ≤ 5
+    most = omega (arith, split .0 .high, record-kind w n)
+
+    pub walk-deep : d + 1 < k → Walking w t residues atoms low end hits (n + 1) d at found
+    walk-deep h =
+        record {
+          order = omega arith;
+          room = i .room;
+          kinds = split .1;
+          depth = i .depth;
+          numbers = up-next n at (i .numbers);
+          few = omega (arith, i .few);
+          all = omega (arith, i .all, ap length (found-deep w t residues atoms low end n d at more (i .depth) h));
+        }
+
+    module _ (to : RecordNumbers) (is : to ≡ enteredAt k n at) where
+      up : UpTo n to
+      up = rw is (up-entered k n at (i .numbers))
+
+      pub walk-inside : Inside w to
+      walk-inside =
+          let r = i .room in
+          record { model = omega (arith, up .model); chain = omega (arith, up .chain); residue = omega (arith, up .residue); conformer = omega (arith, up .conformer); atom = omega (arith, up .atom) }
+
+      module _ (near : k ≤ d + 1) (d′ : ℕ) (after : d′ ≡ depthAfter k (treeValue (valueAt w to low k residues atoms) t)) where
+        pub walk-on : (b : Bool) → eqb d′ 5 ≡ b → foundIn w n end t low d at residues atoms ≡ keep b (five to) (foundIn w (n + 1) end t low d′ to residues atoms)
+        walk-on b e =
+            found-next w t residues atoms low end n d at more (i .depth) least most near to d′ is after
+            ∙ ap (λ (x : Bool). keep x (five to) (foundIn w (n + 1) end t low d′ to residues atoms)) e
+
+        high : d′ ≤ 5
+        high = rw after (depth-high k most (isHit (treeValue (valueAt w to low k residues atoms) t)))
+
+        pub walk-hit : d′ ≡ 5 → Walking w t residues atoms low end hits (n + 1) d′ to (found + 1)
+        walk-hit e =
+            record {
+              order = omega arith;
+              room = i .room;
+              kinds = split .1;
+              depth = high;
+              numbers = up-next n to up;
+              few = omega (arith, i .few);
+              all = omega (arith, i .all, ap length (walk-on true (eq-eqb d′ 5 e)));
+            }
+
+        pub walk-miss : (d′ ≡ 5 → ⊥) → Walking w t residues atoms low end hits (n + 1) d′ to found
+        walk-miss e =
+            record {
+              order = omega arith;
+              room = i .room;
+              kinds = split .1;
+              depth = high;
+              numbers = up-next n to up;
+              few = omega (arith, i .few);
+              all = omega (arith, i .all, ap length (walk-on false (ne-eqb d′ 5 e)));
+            }
+
+-- ---- writing
+
+-- five stores
+pub put-law : (out : List ℕ) (word : ℕ) (at : RecordNumbers) → word + 5 ≤ length out
+    → set (set (set (set (set out word (at .model)) (word + 1) (at .chain)) (word + 2) (at .residue)) (word + 3) (at .conformer)) (word + 4) (at .atom) ≡ over word (five at) out
+unfolding over
+put-law out word at h =
+    let e : word + 1 ≡ suc word = omega arith in
+    let f : word + 2 ≡ suc (suc word) = omega arith in
+    let g : word + 3 ≡ suc (suc (suc word)) = omega arith in
+    let i : word + 4 ≡ suc (suc (suc (suc word))) = omega arith in
+    rw (e, f, g, i) (sets-eq (five at) out word h ∙ append-assoc (take word out) (five at) (drop (word + 5) out))
+
+-- the hits still to come, written where they go, make the output whole
+pub record Writing (w t residues atoms : List ℕ) (low end : ℕ) (hits : List (List ℕ)) (out₀ : List ℕ) (n d : ℕ) (at : RecordNumbers) (found : ℕ) (out : List ℕ) : Type 0 where
+  pub walking : Walking w t residues atoms low end hits n d at found
+  pub long : length out ≡ length out₀
+  pub words : over (found * 5) (hitWords (foundIn w n end t low d at residues atoms)) out ≡ over 0 (hitWords hits) out₀
+
+pub write-start : (w t residues atoms : List ℕ) (low from end d : ℕ) (at : RecordNumbers) (out : List ℕ) → Ready w from end t d at
+    → Writing w t residues atoms low end (foundIn w from end t low d at residues atoms) out from d at 0 out
+write-start w t residues atoms low from end d at out r = record { walking = walk-start w t residues atoms low from end d at r; long = refl; words = refl }
+
+module _ (w t residues atoms : List ℕ) (low end : ℕ) (hits : List (List ℕ)) (out₀ : List ℕ) (n d : ℕ) (at : RecordNumbers) (found : ℕ) (out : List ℕ) (i : Writing w t residues atoms low end hits out₀ n d at found out) where
+  abbrev kindAt : ℕ
+  kindAt = getD w (n * 12) 0
+
+  abbrev put : List (List ℕ) → List ℕ
+  put hs = over (found * 5) (hitWords hs) out
+
+  walk : Walking w t residues atoms low end hits n d at found
+  walk = i .walking
+
+  pub write-end : end ≤ n → (found, out) ≡ wrote hits out₀
+  write-end h =
+      let c = walk-end w t residues atoms low end hits n d at found walk h in
+      let o : out ≡ over 0 (hitWords hits) out₀ = sym (over-none (found * 5) out) ∙ ap put (sym (found-end w t residues atoms low end n d at h)) ∙ i .words in
+      λ j. (c j, o j)
+
+  module _ (more : n < end) where
+    pub write-deep : d + 1 < kindAt → Writing w t residues atoms low end hits out₀ (n + 1) d at found out
+    write-deep h =
+        record {
+          walking = walk-deep w t residues atoms low end hits n d at found walk more h;
+          long = i .long;
+          words = ap put (sym (found-deep w t residues atoms low end n d at more (walk .depth) h)) ∙ i .words;
+        }
+
+    module _ (to : RecordNumbers) (is : to ≡ enteredAt kindAt n at) (near : kindAt ≤ d + 1) (d′ : ℕ) (after : d′ ≡ depthAfter kindAt (treeValue (valueAt w to low kindAt residues atoms) t)) where
+      on : (b : Bool) → eqb d′ 5 ≡ b → foundIn w n end t low d at residues atoms ≡ keep b (five to) (foundIn w (n + 1) end t low d′ to residues atoms)
+      on = walk-on w t residues atoms low end hits n d at found walk more to is near d′ after
+
+      pub write-miss : (d′ ≡ 5 → ⊥) → Writing w t residues atoms low end hits out₀ (n + 1) d′ to found out
+      write-miss e =
+          record {
+            walking = walk-miss w t residues atoms low end hits n d at found walk more to is near d′ after e;
+            long = i .long;
+            words = ap put (sym (on false (ne-eqb d′ 5 e))) ∙ i .words;
+          }
+
+      module _ (fits : 5 * length hits ≤ length out₀) (e : d′ ≡ 5) where
+        pub write-room : found * 5 + 5 ≤ length out
+        write-room = omega (arith, walk .all, i .long, ap length (on true (eq-eqb d′ 5 e)))
+
+        pub write-hit : (out′ : List ℕ) → out′ ≡ over (found * 5) (five to) out → Writing w t residues atoms low end hits out₀ (n + 1) d′ to (found + 1) out′
+        write-hit out′ p =
+            let rest = hitWords (foundIn w (n + 1) end t low d′ to residues atoms) in
+            let z : (found + 1) * 5 ≡ found * 5 + 5 = omega arith in
+            let room = write-room in
+            record {
+              walking = walk-hit w t residues atoms low end hits n d at found walk more to is near d′ after e;
+              long = ap length p ∙ over-length (found * 5) (five to) out room ∙ i .long;
+              words = ap (λ (x : ℕ). over x rest out′) z
+                  ∙ ap (over (found * 5 + 5) rest) p
+                  ∙ over-over (found * 5) (five to) rest out (omega arith)
+                  ∙ ap put (sym (on true (eq-eqb d′ 5 e)))
+                  ∙ i .words;
+            }
+
+-- ---- the whole store
+
+few-kept : (b : Bool) (x : Site) (xs : List Site) (n : ℕ) → length xs ≤ n → length (keep b x xs) ≤ suc n
+few-kept true x xs n h = omega arith
+few-kept false x xs n h = omega arith
+
+few-those : (p : Site → Bool) (xs : List Site) → length (those p xs) ≤ length xs
+few-those p [] = omega arith
+few-those p (x ∷ xs) = few-kept (p x) x (those p xs) (length xs) (few-those p xs)
+
+-- at most as many hits as atoms
+few-hits : (names : Names) (t : List ℕ) (m : Machine) → length (hitsIn names t m) ≤ stored m
+unfolding hitsIn
+few-hits names t m = simp length-map (omega (arith, few-those (λ s. isHit (treeValue (termValue names (s .place)) t)) (atomsOf m), atoms-stored m))
+
+-- the walk over a whole store
+pub whole-ready : (w t : List ℕ) (total : ℕ) → Asked w t total → (end : ℕ) (at : RecordNumbers) → end ≡ length (records (held w)) → at ≡ start → Ready w 0 end t 0 at
+whole-ready w t total asked end at all is =
+    rw (all, is)
+    (record {
+      within = whole-within w (asked .store);
+      kinds = whole-levels w (asked .store);
+      tree = asked .tree;
+      depth = omega arith;
+      numbers = record { model = omega arith; chain = omega arith; residue = omega arith; conformer = omega arith; atom = omega arith };
+    })
+
+module _ (w t residues atoms : List ℕ) (total : ℕ) (asked : Asked w t total) where
+  abbrev names : Names
+  names = record { residues = residues; atoms = atoms }
+
+  abbrev hits : List (List ℕ)
+  hits = hitsIn names t (held w)
+
+  pub enough-for-all : (room : ℕ) → total ≤ room → true ≡ leb (length hits) room
+  enough-for-all room h = sym (le-leb (length hits) room (omega (arith, few-hits names t (held w), asked .atoms)))
+
+  module _ (end : ℕ) (at : RecordNumbers) (all : end ≡ length (records (held w))) (is : at ≡ start) where
+    pub whole-hits : foundIn w 0 end t 1 0 at residues atoms ≡ hits
+    whole-hits = rw (all, is) (found-whole w (asked .store) t names)
+
+    pub enough-counted : (c room : ℕ) → c ≡ length (foundIn w 0 end t 1 0 at residues atoms) → leb c room ≡ leb (length hits) room
+    enough-counted c room e = ap (λ (x : ℕ). leb x room) (e ∙ ap length whole-hits)
+
+those-all : (P : Site → Type 0) (p : Site → Bool) (xs : List Site) → All P xs → All P (those p xs)
+those-all P p [] a = tt
+those-all P p (x ∷ xs) a = kept (p x) (those-all P p xs (a .1))
+  where
+    kept : (b : Bool) → All P (those p xs) → All P (keep b x (those p xs))
+    kept true r = (a .0, r)
+    kept false r = r
+
+words-five : (ss : List Site) → All (λ s. length (s .numbers) ≡ 5) ss → length (hitWords (map (λ s. s .numbers) ss)) ≡ 5 * length ss
+words-five [] a = refl
+words-five (s ∷ ss) a =
+    let r = words-five ss (a .1) in
+    omega (arith, length-append (s .numbers) (hitWords (map (λ s. s .numbers) ss)), a .0)
+
+-- five words to a hit
+hits-five : (names : Names) (t : List ℕ) (m : Machine) → length (hitWords (hitsIn names t m)) ≡ 5 * length (hitsIn names t m)
+unfolding hitsIn
+hits-five names t m =
+    let p : Site → Bool = λ s. isHit (treeValue (termValue names (s .place)) t) in
+    let e = words-five (those p (atomsOf m)) (those-all _ p (atomsOf m) (five-numbers m)) in
+    simp length-map e
+
+tree-then : {A : Type 0} (x : Result (List Node)) (y : Result A) → checked x ≡ CheckedTree.the-variants.Good → (x >> y) ≡ y
+tree-then (ok ns) y e = refl
+tree-then (refused r) y e = let z : _≡_ {A = ℕ} 0 1 = cc in absurd (omega arith)
+
+tree-refused : {A : Type 0} {c : Refusal} (x : Result (List Node)) (y : Result A) → checked x ≡ CheckedTree.the-variants.Refused c → (x >> y) ≡ refused c
+tree-refused (ok ns) y e = let z : _≡_ {A = ℕ} 0 1 = cc in absurd (omega arith)
+tree-refused (refused r) y e = cc
+
+-- find, by the answers of its parts
+module _ (w t : List ℕ) where
+  pub no-store : (out : List ℕ) {c : Refusal} (r : Checked.Checked) → r ≡ checkedBy (readStore w) → r ≡ Checked.the-variants.Refused c
+      → (foundNumbers (Found.the-variants.Refused c), out) ≡ findRun w t out
+  no-store out r e f = sym (refused-find w (sym f ∙ e) t out)
+
+  module _ {total : ℕ} (r : Checked.Checked) (e : r ≡ checkedBy (readStore w)) (f : r ≡ Checked.the-variants.Good total) (x : CheckedTree.CheckedTree) (g : x ≡ checked (readTree t)) where
+    is-held : Held w total
+    is-held = good-store w (sym f ∙ e)
+
+    pub asked-law : x ≡ CheckedTree.the-variants.Good → Asked w t total
+    asked-law h = record { store = is-held .read; atoms = is-held .atoms; tree = sym g ∙ h }
+
+    pub no-tree : (out : List ℕ) {c : Refusal} → x ≡ CheckedTree.the-variants.Refused c → (foundNumbers (Found.the-variants.Refused c), out) ≡ findRun w t out
+    unfolding findRun hitsOf
+    no-tree out h = rw (is-held .read, tree-refused (readTree t) (ok (hitsIn tables t (held w))) (sym g ∙ h))
+
+  module _ (out : List ℕ) (total : ℕ) (asked : Asked w t total) (residues atoms : List ℕ) (one : residues ≡ tables .residues) (two : atoms ≡ tables .atoms) (room : ℕ) (is : room ≡ length out / 5) (b : Bool) (has : b ≡ leb (length (hitsIn (record { residues = residues; atoms = atoms }) t (held w))) room) where
+    all : List (List ℕ)
+    all = hitsIn tables t (held w)
+
+    same : hitsIn (record { residues = residues; atoms = atoms }) t (held w) ≡ all
+    unfolding all
+    same = ap (λ (x : Names). hitsIn x t (held w)) (λ i. record { residues = one i; atoms = two i })
+
+    all-five : length (hitWords all) ≡ 5 * length all
+    unfolding all
+    all-five = hits-five tables t (held w)
+
+    is-run : findRun w t out ≡ written out (ok all)
+    unfolding findRun hitsOf all
+    is-run = rw (asked .store, tree-then (readTree t) (ok (hitsIn tables t (held w))) (asked .tree))
+
+    pub no-room : b ≡ false → (foundNumbers (Found.the-variants.Refused ShortOutput), out) ≡ findRun w t out
+    no-room f =
+        let l = leb-false (length all) room (ap (λ (x : List (List ℕ)). leb (length x) room) (sym same) ∙ sym has ∙ f) in
+        sym (is-run ∙ rw (lt-leb (5 * length all) (length out) (omega arith)))
+
+    module _ (f : b ≡ true) (end : ℕ) (at : RecordNumbers) (ends : end ≡ length (records (held w))) (starts : at ≡ start) where
+      found-all : foundIn w 0 end t 1 0 at residues atoms ≡ all
+      found-all = whole-hits w t residues atoms total asked end at ends starts ∙ same
+
+      fits : 5 * length all ≤ length out
+      fits = let l = leb-true (length all) room (ap (λ (x : List (List ℕ)). leb (length x) room) (sym same) ∙ sym has ∙ f) in omega arith
+
+      pub has-room : 5 * length (foundIn w 0 end t 1 0 at residues atoms) ≤ length out
+      has-room = rw found-all fits
+
+      pub found-law : (r : ℕ) (out′ : List ℕ) → (r, out′) ≡ wrote (foundIn w 0 end t 1 0 at residues atoms) out → (foundNumbers (Found.the-variants.Hits r), out′) ≡ findRun w t out
+      unfolding over
+      found-law r out′ p =
+          let z : 0 + length (hitWords all) ≡ 5 * length all = omega (arith, all-five) in
+          let q : (r, out′) ≡ wrote all out = p ∙ ap (λ (x : List (List ℕ)). wrote x out) found-all in
+          ap (λ (x : ℕ × List ℕ). (foundNumbers (Found.the-variants.Hits (x .0)), x .1)) q
+          ∙ rw z (sym (is-run ∙ rw (le-leb (5 * length all) (length out) fits)))

@@ -1,0 +1,106 @@
+-- `walk::count_in` meets its contract: what was found before record n and what is found from it on are all. Assumes nothing.
+use borrow.Author.Needs.{needs}
+use Prim.Native.Nat.{_-_}
+use native.Mathlib.Omega.{arith}
+use Rattle.walk.specs.Walk.{foundIn}
+use Rattle.walk.proofs.Laws.{Walking, walk-start, walk-end, least, walk-deep, walk-inside, walk-hit, walk-miss}
+use Rattle.walk.proofs.count_in.Statement.{statement}
+use Rattle.walk.proofs.count_in.Tie as tie
+
+abbrev Inv-loop : tie.InvT-loop
+Inv-loop store from end tree low depth residues atoms at₀ live₀ found₀ n₀ at live found n = Walking store tree residues atoms low end (foundIn store from end tree low depth at₀ residues atoms) n live at found
+
+abbrev μ-loop : tie.MeasureT-loop
+μ-loop store from end tree low depth residues atoms at₀ live₀ found₀ n₀ at live found n = end - n
+
+loop-holds : tie.Need-loop-holds Inv-loop μ-loop
+loop-holds c = walk-start _ _ _ _ _ _ _ _ _ (c .before .before .before .before .pre)
+
+mul-kind : tie.Need-mul-kind Inv-loop μ-loop
+mul-kind c = omega arith
+
+mul-kind-2 : tie.Need-mul-kind-2 Inv-loop μ-loop
+mul-kind-2 c = omega arith
+
+shared-slice-read-kind : tie.Need-shared-slice-read-kind Inv-loop μ-loop
+shared-slice-read-kind c = omega arith
+
+add-if1 : tie.Need-add-if1 Inv-loop μ-loop
+add-if1 c = omega arith
+
+add-n : tie.Need-add-n Inv-loop μ-loop
+add-n c = omega arith
+
+loop-less : tie.Need-loop-less Inv-loop μ-loop
+loop-less c = omega arith
+
+loop-again : tie.Need-loop-again Inv-loop μ-loop
+loop-again c = walk-deep _ _ _ _ _ _ _ _ _ _ _ (c .before .before .before .loop .inv) (c .before .before .loop-test .taken) (c .if1 .taken)
+
+entered-requires : tie.Need-entered-requires Inv-loop μ-loop
+entered-requires c κs = search needs
+
+depth-after-requires : tie.Need-depth-after-requires Inv-loop μ-loop
+depth-after-requires c κs =
+    let l = c .before .before .before in
+    let i = l .before .loop .inv in
+    let more = l .loop-test .taken in (
+      l .before .before .before .before .before .before .pre .tree,
+      walk-inside _ _ _ _ _ _ _ _ _ _ _ i more _ (c .entered .ensures),
+      least _ _ _ _ _ _ _ _ _ _ _ i more,
+    )
+
+add-found : tie.Need-add-found Inv-loop μ-loop
+add-found c = omega arith
+
+add-n-2 : tie.Need-add-n-2 Inv-loop μ-loop
+add-n-2 c = omega arith
+
+loop-less-2 : tie.Need-loop-less-2 Inv-loop μ-loop
+loop-less-2 c = omega arith
+
+loop-again-2 : tie.Need-loop-again-2 Inv-loop μ-loop
+loop-again-2 c =
+    let e = c .before .before in
+    let l = e .before .before .before in
+    walk-hit _ _ _ _ _ _ _ _ _ _ _ (l .before .loop .inv) (l .loop-test .taken) _ (e .entered .ensures) (e .before .if1 .left) _ (c .before .depth-after .ensures) (c .if2 .taken)
+
+add-n-3 : tie.Need-add-n-3 Inv-loop μ-loop
+add-n-3 c = omega arith
+
+loop-less-3 : tie.Need-loop-less-3 Inv-loop μ-loop
+loop-less-3 c = omega arith
+
+loop-again-3 : tie.Need-loop-again-3 Inv-loop μ-loop
+loop-again-3 c =
+    let e = c .before .before in
+    let l = e .before .before .before in
+    walk-miss _ _ _ _ _ _ _ _ _ _ _ (l .before .loop .inv) (l .loop-test .taken) _ (e .entered .ensures) (e .before .if1 .left) _ (c .before .depth-after .ensures) (c .if2 .left)
+
+returns : tie.Need-returns Inv-loop μ-loop
+returns c = walk-end _ _ _ _ _ _ _ _ _ _ _ (c .before .loop .inv) (c .loop-test .left)
+
+pub count-in-spec : {M : Type 1} → statement M
+count-in-spec =
+    tie.close
+    (tie.spec
+    Inv-loop
+    μ-loop
+    loop-holds
+    mul-kind
+    mul-kind-2
+    shared-slice-read-kind
+    add-if1
+    add-n
+    loop-less
+    loop-again
+    entered-requires
+    depth-after-requires
+    add-found
+    add-n-2
+    loop-less-2
+    loop-again-2
+    add-n-3
+    loop-less-3
+    loop-again-3
+    returns)

@@ -1,0 +1,4 @@
+pub mod Sieve
+pub mod Pruned
+pub mod Walk
+pub mod Laws

@@ -1,0 +1,253 @@
+// Find's pruned walk (document 01, "Trees and find"): one pass over a store's records, which looks below none where the tree is false.
+use machine::Found;
+use machine::RecordNumbers;
+use machine::Refusal;
+use machine::Tri;
+use search::CheckedTree;
+use store::Checked;
+ghost use mathlib.Core.Path.{_≡_};
+ghost use Prim.Native.Nat.{_+_, _*_, _≤_};
+ghost use lib.ListN.{length};
+ghost use lib.Dec.{leb};
+ghost use Rattle.machine.specs.Answer.{foundNumbers};
+ghost use Rattle.machine.specs.Kleene.{isHit};
+ghost use Rattle.machine.specs.Query.{readTree, treeValue};
+ghost use Rattle.machine.specs.Find.{hitsIn, findRun};
+ghost use Rattle.moves.specs.Over.{over};
+ghost use Rattle.seek.specs.Seek.{held};
+ghost use Rattle.search.specs.Levels.{valueAt, Inside};
+ghost use Rattle.search.specs.Nodes.{checked};
+ghost use Rattle.search.specs.declared.CheckedTree.the-variants.{Good};
+ghost use Rattle.walk.specs.Walk.{five, start as startAt, enteredAt, depthAfter, foundIn, wrote, Ready, Asked};
+
+// ---- a turn
+
+fn start() -> RecordNumbers
+    ensures { λ r. ⌜ r ≡ startAt ⌝ }
+{
+    RecordNumbers {
+        model: 0,
+        chain: 0,
+        residue: 0,
+        conformer: 0,
+        atom: 0,
+    }
+}
+
+// Record n of a kind is the last that was seen.
+fn entered(kind: u64, n: u64, at: RecordNumbers) -> RecordNumbers
+    ensures { λ r. ⌜ r ≡ enteredAt kind n at ⌝ }
+{
+    match kind {
+        1 => RecordNumbers {
+            model: n,
+            chain: at.chain,
+            residue: at.residue,
+            conformer: at.conformer,
+            atom: at.atom,
+        },
+        2 => RecordNumbers {
+            model: at.model,
+            chain: n,
+            residue: at.residue,
+            conformer: at.conformer,
+            atom: at.atom,
+        },
+        3 => RecordNumbers {
+            model: at.model,
+            chain: at.chain,
+            residue: n,
+            conformer: at.conformer,
+            atom: at.atom,
+        },
+        4 => RecordNumbers {
+            model: at.model,
+            chain: at.chain,
+            residue: at.residue,
+            conformer: n,
+            atom: at.atom,
+        },
+        _ => RecordNumbers {
+            model: at.model,
+            chain: at.chain,
+            residue: at.residue,
+            conformer: at.conformer,
+            atom: n,
+        },
+    }
+}
+
+// "Undecided counts as a hit."
+fn is_hit(v: Tri) -> bool
+    ensures { λ r. ⌜ r ≡ isHit v ⌝ }
+{
+    match v {
+        Tri::False => false,
+        Tri::True => true,
+        Tri::Undecided => true,
+    }
+}
+
+// How many records the next one may stand under: what is below a record where the tree is false is too deep then.
+// An atom is a hit where this is 5.
+fn depth_after(
+    store: &[u64],
+    tree: &[u64],
+    at: RecordNumbers,
+    low: u64,
+    kind: u64,
+    residues: &[u64],
+    atoms: &[u64],
+) -> u64
+    requires { ⌜ (checked (readTree (now tree)) ≡ Good) × Inside (now store) at × (1 ≤ kind) ⌝ }
+    ensures { λ r. ⌜ r ≡ depthAfter kind (treeValue (valueAt (now (store .entry)) at low kind (now (residues .entry)) (now (atoms .entry))) (now (tree .entry))) ⌝ }
+{
+    let v = search::value(tree, store, at, low, kind, residues, atoms);
+    if is_hit(v) { kind } else { kind - 1 }
+}
+
+// ---- a pass
+
+// How many hits there are among the records from `from` up to `end`, the first of which may stand under `depth` of those at `first`.
+pub fn count_in(
+    store: &[u64],
+    from: usize,
+    end: usize,
+    tree: &[u64],
+    low: u64,
+    depth: u64,
+    first: RecordNumbers,
+    residues: &[u64],
+    atoms: &[u64],
+) -> u64
+    requires { ⌜ Ready (now store) from end (now tree) depth first ⌝ }
+    ensures { λ r. ⌜ r ≡ length (foundIn (now (store .entry)) from end (now (tree .entry)) low depth first (now (residues .entry)) (now (atoms .entry))) ⌝ }
+{
+    let mut at = first;
+    let mut live = depth;
+    let mut found: u64 = 0;
+    let mut n = from;
+    while n < end {
+        let kind = store[n * 12];
+        if live + 1 < kind {
+            n += 1;
+        } else {
+            at = entered(kind, n as u64, at);
+            live = depth_after(store, tree, at, low, kind, residues, atoms);
+            if live == 5 {
+                found += 1;
+                n += 1;
+            } else {
+                n += 1;
+            }
+        }
+    }
+    found
+}
+
+// "A hit is five words: the record numbers of model, chain, residue, conformer, atom."
+fn put(out: &mut [u64], hit: u64, at: RecordNumbers)
+    requires { ⌜ hit * 5 + 5 ≤ length (now out) ⌝ }
+    ensures { λ _. ⌜ now (out .exit) ≡ over (hit * 5) (five at) (now (out .entry)) ⌝ }
+{
+    let word = hit as usize * 5;
+    out[word] = at.model;
+    out[word + 1] = at.chain;
+    out[word + 2] = at.residue;
+    out[word + 3] = at.conformer;
+    out[word + 4] = at.atom;
+}
+
+// Writes those hits, and says how many they are.
+pub fn find_in(
+    store: &[u64],
+    from: usize,
+    end: usize,
+    tree: &[u64],
+    low: u64,
+    depth: u64,
+    first: RecordNumbers,
+    residues: &[u64],
+    atoms: &[u64],
+    out: &mut [u64],
+) -> u64
+    requires { ⌜ Ready (now store) from end (now tree) depth first × (5 * length (foundIn (now store) from end (now tree) low depth first (now residues) (now atoms)) ≤ length (now out)) ⌝ }
+    ensures { λ r. ⌜ (r, now (out .exit)) ≡ wrote (foundIn (now (store .entry)) from end (now (tree .entry)) low depth first (now (residues .entry)) (now (atoms .entry))) (now (out .entry)) ⌝ }
+{
+    let mut at = first;
+    let mut live = depth;
+    let mut found: u64 = 0;
+    let mut n = from;
+    while n < end {
+        let kind = store[n * 12];
+        if live + 1 < kind {
+            n += 1;
+        } else {
+            at = entered(kind, n as u64, at);
+            live = depth_after(store, tree, at, low, kind, residues, atoms);
+            if live == 5 {
+                put(out, found, at);
+                found += 1;
+                n += 1;
+            } else {
+                n += 1;
+            }
+        }
+    }
+    found
+}
+
+// ---- find
+
+// Whether `room` hits are enough. They are counted only where there is no room for all atoms.
+fn enough(
+    store: &[u64],
+    tree: &[u64],
+    total: u64,
+    room: u64,
+    residues: &[u64],
+    atoms: &[u64],
+) -> bool
+    requires { ⌜ Asked (now store) (now tree) total ⌝ }
+    ensures { λ r. ⌜ r ≡ leb (length (hitsIn (record { residues = now (residues .entry); atoms = now (atoms .entry) }) (now (tree .entry)) (held (now (store .entry))))) room ⌝ }
+{
+    if total <= room {
+        return true;
+    }
+    let end = seek::record_count(store);
+    count_in(store, 0, end, tree, 1, 0, start(), residues, atoms) <= room
+}
+
+// A store of that many atoms, and a tree. "10 output shorter than 5 words per hit" leaves the output as it was.
+fn find_checked(store: &[u64], tree: &[u64], total: u64, out: &mut [u64]) -> Found
+    requires { ⌜ Asked (now store) (now tree) total ⌝ }
+    ensures { λ r. ⌜ (foundNumbers r, now (out .exit)) ≡ findRun (now (store .entry)) (now (tree .entry)) (now (out .entry)) ⌝ }
+{
+    let residues = reference_tables::amino_acids();
+    let atoms = reference_tables::backbone_names();
+    let room = out.len() as u64 / 5;
+    if enough(store, tree, total, room, &residues, &atoms) {
+        let end = seek::record_count(store);
+        let found = find_in(store, 0, end, tree, 1, 0, start(), &residues, &atoms, out);
+        Found::Hits(found)
+    } else {
+        Found::Refused(Refusal::ShortOutput)
+    }
+}
+
+// Refused in order: 1 and 2 by the store, 3 and 4 by the tree, 10 by the output.
+pub fn find(store: &[u64], tree: &[u64], out: &mut [u64]) -> Found
+    ensures { λ r. ⌜ (foundNumbers r, now (out .exit)) ≡ findRun (now (store .entry)) (now (tree .entry)) (now (out .entry)) ⌝ }
+{
+    let checked = store::check(store);
+    match checked {
+        Checked::Refused(c) => Found::Refused(c),
+        Checked::Good(total) => {
+            let read = search::check_tree(tree);
+            match read {
+                CheckedTree::Refused(c) => Found::Refused(c),
+                CheckedTree::Good => find_checked(store, tree, total, out),
+            }
+        }
+    }
+}
