@@ -17,6 +17,7 @@ use seek::Record;
 use seek::Span;
 
 // A new atom's numbers; floats and the charge are given by their bits.
+#[repr(C)]
 pub struct NewAtom {
     pub serial: u64,
     pub x: u64,

@@ -19,7 +19,7 @@ use Rattle.laws.specs.Counting.{those-All}
 use Rattle.laws.specs.Numbers.{five-numbers}
 use Rattle.laws.specs.Steps.{refusal-number}
 
-fives-words : (hs : List (List ℕ)) (rest : List ℕ) → All (λ h. length h ≡ 5) hs → fives (length hs) (hitWords hs ++ rest) ≡ hs
+pub fives-words : (hs : List (List ℕ)) (rest : List ℕ) → All (λ h. length h ≡ 5) hs → fives (length hs) (hitWords hs ++ rest) ≡ hs
 fives-words [] rest a = refl
 fives-words (h ∷ hs) rest a = rw (append-assoc h, take-at h (hitWords hs ++ rest) 5 (a .0), drop-at h (hitWords hs ++ rest) 5 (a .0), fives-words hs rest (a .1))
 
@@ -30,7 +30,7 @@ pub record Listed (m : Machine) (t : List ℕ) (run : List ℕ × List ℕ) : Ty
   pub hits : list run ≡ hitsIn tables t m
   pub number : count run ≡ length (list run)
 
-hits-five : (t : List ℕ) (m : Machine) → All (λ h. length h ≡ 5) (hitsIn tables t m)
+pub hits-five : (t : List ℕ) (m : Machine) → All (λ h. length h ≡ 5) (hitsIn tables t m)
 unfolding hitsIn
 hits-five t m =
     let hit : Site → Bool = λ s. isHit (valueAt tables t s) in

@@ -1,15 +1,15 @@
 -- The check of a tree: the number of operands goes along with the nodes. Assumes nothing.
 use Prim.Native.Nat.{ℕ, zero, suc, _+_, _-_, _≤_, _<_, _%_}
 use mathlib.Core.Path.{_≡_, refl, sym, ap, _∙_}
-use mathlib.Core.Bool.{Bool, true, false, _&&_}
+use mathlib.Core.Bool.{Bool, true, false, _&&_, cond, false≢true}
 use mathlib.Core.List.{List, [], _∷_}
 use mathlib.Core.Option.{none, some}
 use native.Mathlib.Omega.{arith}
 use lib.ListN.{length, drop, getD}
 use lib.Seq.{drop-cons, drop-length}
-use lib.Dec.{leb, eqb}
-use borrow.Author.Tests.{le-leb, lt-leb, eq-eqb, ne-eqb}
-use Rattle.machine.specs.Lists.{andThen}
+use lib.Dec.{leb, ltb, eqb}
+use borrow.Author.Tests.{le-leb, lt-leb, leb-true, leb-false, ltb-true, ltb-false, eq-eqb, ne-eqb, eqb-true}
+use Rattle.machine.specs.Lists.{all, andThen}
 use Rattle.machine.specs.Answer.{Result, ok, refused, _>>=_, _>>_, need}
 use Rattle.machine.specs.Query.{nodeOf, nodesOf, Stack, step, run, isOne, leavesOne, readTree}
 use Rattle.machine.specs.declared.Tri.{Tri}
@@ -19,60 +19,81 @@ use Rattle.machine.specs.declared.Node.{Node}
 use Rattle.machine.specs.declared.Node.the-variants.{Single, Binary, Not, Known}
 use Rattle.machine.specs.declared.Refusal.{Refusal}
 use Rattle.machine.specs.declared.Refusal.the-variants.{TreeShape, TreeNode}
-use Rattle.search.specs.Nodes.{maybeNode, deeper, depthOf, maybeDepth, checked}
-use Rattle.search.specs.declared.MaybeNode.the-variants as MaybeNode
-use Rattle.search.specs.declared.MaybeDepth.the-variants as MaybeDepth
+use Rattle.search.specs.Nodes.{nodeFor, goodNode, deeper, leftBy, deeperBy, depthOf, maybeDepth, checked}
+use Rattle.search.specs.declared.MaybeDepth as MaybeDepth
 use Rattle.search.specs.declared.CheckedTree.the-variants as CheckedTree
-use Rattle.search.proofs.Nodes.{node-refused}
+use Rattle.search.proofs.Terms.{cases}
+use Rattle.search.proofs.Nodes.{each-in, bad-low, bad-high, node-good, node-bad, node-refused}
 
 -- ---- one node
 
--- the least number at which a node finds its operands, and the number after it
+-- the least number at which a node finds its operands
 abbrev least : Node → ℕ
 least (Single t) = 1
 least (Binary o) = 3
 least Not = 2
 least (Known b) = 1
 
-abbrev after : Node → ℕ → ℕ
-after (Single t) d = d + 1
-after (Binary o) d = d - 1
-after Not d = d
-after (Known b) d = d + 1
+few : (n : Node) (d : ℕ) → d < least n → 0 ≡ deeper n d
+few (Single t) zero h = refl
+few (Single t) (suc d) h = absurd (omega arith)
+few (Binary o) zero h = refl
+few (Binary o) (suc zero) h = refl
+few (Binary o) (suc (suc zero)) h = refl
+few (Binary o) (suc (suc (suc d))) h = absurd (omega arith)
+few Not zero h = refl
+few Not (suc zero) h = refl
+few Not (suc (suc d)) h = absurd (omega arith)
+few (Known b) zero h = refl
+few (Known b) (suc d) h = absurd (omega arith)
 
-missing : (n : Node) (d : ℕ) → d < least n → 0 ≡ deeper n d
-missing (Single t) zero h = refl
-missing (Single t) (suc d) h = absurd (omega arith)
-missing (Binary o) zero h = refl
-missing (Binary o) (suc zero) h = refl
-missing (Binary o) (suc (suc zero)) h = refl
-missing (Binary o) (suc (suc (suc d))) h = absurd (omega arith)
-missing Not zero h = refl
-missing Not (suc zero) h = refl
-missing Not (suc (suc d)) h = absurd (omega arith)
-missing (Known b) zero h = refl
-missing (Known b) (suc d) h = absurd (omega arith)
+enough : (n : Node) (d : ℕ) → least n ≤ d → d + 2 - least n ≡ deeper n d
+enough (Single t) zero h = absurd (omega arith)
+enough (Single t) (suc d) h = omega arith
+enough (Binary o) zero h = absurd (omega arith)
+enough (Binary o) (suc zero) h = absurd (omega arith)
+enough (Binary o) (suc (suc zero)) h = absurd (omega arith)
+enough (Binary o) (suc (suc (suc d))) h = omega arith
+enough Not zero h = absurd (omega arith)
+enough Not (suc zero) h = absurd (omega arith)
+enough Not (suc (suc d)) h = omega arith
+enough (Known b) zero h = absurd (omega arith)
+enough (Known b) (suc d) h = omega arith
 
-found : (n : Node) (d : ℕ) → least n ≤ d → after n d ≡ deeper n d
-found (Single t) zero h = absurd (omega arith)
-found (Single t) (suc d) h = omega arith
-found (Binary o) zero h = absurd (omega arith)
-found (Binary o) (suc zero) h = absurd (omega arith)
-found (Binary o) (suc (suc zero)) h = absurd (omega arith)
-found (Binary o) (suc (suc (suc d))) h = omega arith
-found Not zero h = absurd (omega arith)
-found Not (suc zero) h = absurd (omega arith)
-found Not (suc (suc d)) h = refl
-found (Known b) zero h = absurd (omega arith)
-found (Known b) (suc d) h = omega arith
+left-deeper : (n : Node) (d : ℕ) → leftBy (least n) d ≡ deeper n d
+left-deeper n d = go (ltb d (least n)) refl
+  where
+    go : (b : Bool) → ltb d (least n) ≡ b → cond b 0 (d + 2 - least n) ≡ deeper n d
+    go true e = few n d (ltb-true d (least n) e)
+    go false e = enough n d (ltb-false d (least n) e)
 
-pub few : {n m : Node} → n ≡ m → (d : ℕ) → d < least m → 0 ≡ deeper n d
-few {n} {m} e d h = missing m d h ∙ ap (λ (k : Node). deeper k d) (sym e)
+-- the codes of an arm have nodes with one number of operands
+module _ (c p q d : ℕ) (good : goodNode c p q ≡ true) where
+  goes : ok (deeper (nodeFor c p q) d) ≡ deeperBy c p q d
+  goes = rw (node-good c p q good)
 
-pub enough : {n m : Node} → n ≡ m → (d : ℕ) → least m ≤ d → after m d ≡ deeper n d
-enough {n} {m} e d h = found m d h ∙ ap (λ (k : Node). deeper k d) (sym e)
+  module _ (k from many : ℕ) (each : all (λ j. eqb (least (nodeFor j p q)) k) (cases from many) ≡ true) (low : from ≤ c) (high : c < from + many) where
+    is-least : least (nodeFor c p q) ≡ k
+    is-least = eqb-true (least (nodeFor c p q)) k (each-in (λ j. eqb (least (nodeFor j p q)) k) from many c each low high)
 
-pub deeper-by-one : (n : Node) (d : ℕ) → deeper n d ≤ d + 1
+    pub arm : {r : MaybeDepth.MaybeDepth} → r ≡ MaybeDepth.the-variants.Is (leftBy k d) → r ≡ maybeDepth (deeperBy c p q d)
+    arm e = e ∙ ap (λ (j : ℕ). MaybeDepth.the-variants.Is (leftBy j d)) (sym is-least) ∙ rw (left-deeper (nodeFor c p q) d) (ap maybeDepth goes)
+
+  pub arm-none : (1 ≤ c → c ≤ 28 → ⊥) → MaybeDepth.the-variants.Refused ≡ maybeDepth (deeperBy c p q d)
+  arm-none h = absurd (h (low (leb 1 c) refl) (high (leb c 28) refl))
+    where
+      low : (b : Bool) → leb 1 c ≡ b → 1 ≤ c
+      low true e = leb-true 1 c e
+      low false e = absurd (false≢true (bad-low p q c (leb-false 1 c e) ∙ good))
+
+      high : (b : Bool) → leb c 28 ≡ b → c ≤ 28
+      high true e = leb-true c 28 e
+      high false e = absurd (false≢true (bad-high p q c (leb-false c 28 e) ∙ good))
+
+pub arm-bad : (c p q d : ℕ) → goodNode c p q ≡ false → MaybeDepth.the-variants.Refused ≡ maybeDepth (deeperBy c p q d)
+arm-bad c p q d h = rw (node-bad c p q h)
+
+deeper-by-one : (n : Node) (d : ℕ) → deeper n d ≤ d + 1
 deeper-by-one (Single x) zero = omega arith
 deeper-by-one (Single x) (suc d) = omega arith
 deeper-by-one (Binary o) zero = omega arith
@@ -96,23 +117,32 @@ module _ (t : List ℕ) (d i : ℕ) where
       let e₃ : suc (i + 2) ≡ i + 3 = omega arith in
       rw (drop-cons t i 0 (omega arith), e₁, drop-cons t (i + 1) 0 (omega arith), e₂, drop-cons t (i + 2) 0 (omega arith), e₃)
 
-  pub node-read : {m : Node} → depthOf 1 t ≡ depthOf d (drop i t) → i + 3 ≤ length t
-      → maybeNode (nodeOf (getD t i 0) (getD t (i + 1) 0) (getD t (i + 2) 0)) ≡ MaybeNode.Is m → depthOf 1 t ≡ depthOf (deeper m d) (drop (i + 3) t)
-  node-read {m} e h g = e ∙ turn h ∙ go (nodeOf (getD t i 0) (getD t (i + 1) 0) (getD t (i + 2) 0)) g
-    where
-      go : (r : Result Node) → maybeNode r ≡ MaybeNode.Is m → (r >>= λ n. depthOf (deeper n d) (drop (i + 3) t)) ≡ depthOf (deeper m d) (drop (i + 3) t)
-      go (ok n) g = let q : n ≡ m = cc in rw q
-      go (refused c) g = cc
+  module _ (h : i + 3 ≤ length t) where
+    abbrev read : Result ℕ
+    read = deeperBy (getD t i 0) (getD t (i + 1) 0) (getD t (i + 2) 0) d
 
-  pub node-not-read : depthOf 1 t ≡ depthOf d (drop i t) → i + 3 ≤ length t
-      → maybeNode (nodeOf (getD t i 0) (getD t (i + 1) 0) (getD t (i + 2) 0)) ≡ MaybeNode.Refused → MaybeDepth.Refused ≡ maybeDepth (depthOf 1 t)
-  node-not-read e h g = go (nodeOf (getD t i 0) (getD t (i + 1) 0) (getD t (i + 2) 0)) g ∙ ap maybeDepth (sym (e ∙ turn h))
-    where
-      go : (r : Result Node) → maybeNode r ≡ MaybeNode.Refused → MaybeDepth.Refused ≡ maybeDepth (r >>= λ n. depthOf (deeper n d) (drop (i + 3) t))
-      go (ok n) g = cc
-      go (refused c) g = refl
+    pub node-small : {e : ℕ} → maybeDepth read ≡ MaybeDepth.the-variants.Is e → e ≤ d + 1
+    node-small {e} g = go (nodeOf (getD t i 0) (getD t (i + 1) 0) (getD t (i + 2) 0)) g
+      where
+        go : (r : Result Node) → maybeDepth (r >>= λ n. ok (deeper n d)) ≡ MaybeDepth.the-variants.Is e → e ≤ d + 1
+        go (ok n) g = let q : deeper n d ≡ e = cc in omega (arith, deeper-by-one n d)
+        go (refused c) g = let z : _≡_ {A = ℕ} 0 1 = cc in absurd (omega arith)
 
-  pub all-read : depthOf 1 t ≡ depthOf d (drop i t) → i ≡ length t → MaybeDepth.Is d ≡ maybeDepth (depthOf 1 t)
+    pub node-read : {e : ℕ} → depthOf 1 t ≡ depthOf d (drop i t) → maybeDepth read ≡ MaybeDepth.the-variants.Is e → depthOf 1 t ≡ depthOf e (drop (i + 3) t)
+    node-read {e} a g = a ∙ turn h ∙ go (nodeOf (getD t i 0) (getD t (i + 1) 0) (getD t (i + 2) 0)) g
+      where
+        go : (r : Result Node) → maybeDepth (r >>= λ n. ok (deeper n d)) ≡ MaybeDepth.the-variants.Is e → (r >>= λ n. depthOf (deeper n d) (drop (i + 3) t)) ≡ depthOf e (drop (i + 3) t)
+        go (ok n) g = let q : deeper n d ≡ e = cc in rw q
+        go (refused c) g = cc
+
+    pub node-not-read : depthOf 1 t ≡ depthOf d (drop i t) → maybeDepth read ≡ MaybeDepth.the-variants.Refused → MaybeDepth.the-variants.Refused ≡ maybeDepth (depthOf 1 t)
+    node-not-read a g = go (nodeOf (getD t i 0) (getD t (i + 1) 0) (getD t (i + 2) 0)) g ∙ ap maybeDepth (sym (a ∙ turn h))
+      where
+        go : (r : Result Node) → maybeDepth (r >>= λ n. ok (deeper n d)) ≡ MaybeDepth.the-variants.Refused → MaybeDepth.the-variants.Refused ≡ maybeDepth (r >>= λ n. depthOf (deeper n d) (drop (i + 3) t))
+        go (ok n) g = cc
+        go (refused c) g = refl
+
+  pub all-read : depthOf 1 t ≡ depthOf d (drop i t) → i ≡ length t → MaybeDepth.the-variants.Is d ≡ maybeDepth (depthOf 1 t)
   unfolding depthOf
   all-read e h = ap maybeDepth (sym (e ∙ ap (λ (j : ℕ). depthOf d (drop j t)) h ∙ ap (depthOf d) (drop-length t)))
 
@@ -222,16 +252,16 @@ module _ (t : List ℕ) where
         go (ok ns) = rw (one-left ns)
         go (refused c) = refl
 
-    pub bad-node : maybeDepth (depthOf 1 t) ≡ MaybeDepth.Refused → CheckedTree.Refused TreeNode ≡ checked (readTree t)
+    pub bad-node : maybeDepth (depthOf 1 t) ≡ MaybeDepth.the-variants.Refused → CheckedTree.Refused TreeNode ≡ checked (readTree t)
     bad-node e = go (nodesOf t) refl (rw (nodes-depth 1 t) at e) ∙ ap checked (sym read-by)
       where
-        go : (r : Result (List Node)) → nodesOf t ≡ r → maybeDepth (r >>= λ ns. ok (depthAfter 1 ns)) ≡ MaybeDepth.Refused
+        go : (r : Result (List Node)) → nodesOf t ≡ r → maybeDepth (r >>= λ ns. ok (depthAfter 1 ns)) ≡ MaybeDepth.the-variants.Refused
             → CheckedTree.Refused TreeNode ≡ checked (r >>= λ ns. need (eqb (depthAfter 1 ns) 2) TreeShape >> ok ns)
         go (ok ns) a g = cc
         go (refused c) a g = ap CheckedTree.Refused (sym (nodes-refused t c h a))
 
-    module _ (d : ℕ) (e : maybeDepth (depthOf 1 t) ≡ MaybeDepth.Is d) where
-      shape : (r : Result (List Node)) → maybeDepth (r >>= λ ns. ok (depthAfter 1 ns)) ≡ MaybeDepth.Is d → checked (need (eqb d 2) TreeShape >> ok []) ≡ checked (r >>= λ ns. need (eqb (depthAfter 1 ns) 2) TreeShape >> ok ns)
+    module _ (d : ℕ) (e : maybeDepth (depthOf 1 t) ≡ MaybeDepth.the-variants.Is d) where
+      shape : (r : Result (List Node)) → maybeDepth (r >>= λ ns. ok (depthAfter 1 ns)) ≡ MaybeDepth.the-variants.Is d → checked (need (eqb d 2) TreeShape >> ok []) ≡ checked (r >>= λ ns. need (eqb (depthAfter 1 ns) 2) TreeShape >> ok ns)
       shape (ok ns) g = let q : depthAfter 1 ns ≡ d = cc in rw q (go (eqb d 2))
         where
           go : (b : Bool) → checked (need b TreeShape >> ok []) ≡ checked (need b TreeShape >> ok ns)

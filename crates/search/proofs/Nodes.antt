@@ -24,7 +24,7 @@ use Rattle.search.proofs.Terms.{cases, each-key}
 
 -- ---- codes in a range, and codes that are none of the keys passed
 
-each-in : (test : ℕ → Bool) (n k c : ℕ) → all test (cases n k) ≡ true → n ≤ c → c < n + k → test c ≡ true
+pub each-in : (test : ℕ → Bool) (n k c : ℕ) → all test (cases n k) ≡ true → n ≤ c → c < n + k → test c ≡ true
 each-in test n zero c a l h = absurd (omega arith)
 each-in test n (suc k) c a l h =
     let s = and-both (test n) (all test (cases (suc n) k)) a in

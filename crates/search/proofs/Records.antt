@@ -1,8 +1,8 @@
 -- The twelve words of a record, and a term's value at the place of five records by the level that it asks for. Assumes nothing.
 use Prim.Native.Nat.{ℕ, _+_, _-_, _*_, _≤_, _<_}
-use mathlib.Core.Path.{_≡_, refl, sym, ap, _∙_}
+use mathlib.Core.Path.{_≡_, refl, ap, _∙_}
 use mathlib.Core.Bool.{Bool}
-use mathlib.Core.List.{List, _++_}
+use mathlib.Core.List.{List}
 use mathlib.Core.Option.{some}
 use native.Mathlib.Omega.{arith}
 use lib.ListN.{length, take, drop, getD, length-take, length-drop}
@@ -11,11 +11,11 @@ use types.Run.{OneOf}
 use Rattle.machine.specs.Record.{fieldsOf}
 use Rattle.machine.specs.Query.{Place, Names, onlyIf, between, window, termValue}
 use Rattle.machine.specs.declared.Tri.{Tri}
-use Rattle.machine.specs.declared.Tri.the-variants.{False, True, Undecided}
+use Rattle.machine.specs.declared.Tri.the-variants.{False}
 use Rattle.machine.specs.declared.Term.{Term}
 use Rattle.machine.specs.declared.RecordNumbers.{RecordNumbers}
-use Rattle.search.specs.Levels.{atModel, atChain, atResidue, atConformer, atAtom, recordAt, placeAt}
-use Rattle.search.proofs.Terms.{caseOf, cases, here, side-false, side-true, side-left}
+use Rattle.search.specs.Levels.{atModel, atChain, atResidue, atConformer, atAtom, recordAt, placeAt, narrow}
+use Rattle.search.proofs.Terms.{caseOf, cases, here, lower}
 
 module _ (w : List ℕ) (n : ℕ) where
   pub record-part : take (n * 12 + 12 - n * 12) (drop (n * 12) w) ≡ recordAt w n
@@ -64,18 +64,13 @@ module _ (names : Names) (w : List ℕ) (at : RecordNumbers) (low high : ℕ) (t
   pub residue-arm : {r : Tri} {known : Bool} → r ≡ termValue names (atResidue (onlyIf known (some (fieldsOf 2 (recordAt w (at .residue)))))) t → known ≡ between low high 3 → OneOf (cases 4 4) (caseOf t) → r ≡ termValue names place t
   residue-arm e b h = residue-alone e b ∙ here names 3 place (cases 4 4) t refl h
 
-  pub conformer-arm : {r : Tri} {known : Bool} → r ≡ termValue names (atConformer (onlyIf known (some (fieldsOf 1 (recordAt w (at .conformer)))))) t → known ≡ between low high 4 → OneOf (cases 8 3) (caseOf t) → r ≡ termValue names place t
-  conformer-arm e b h = conformer-alone e b ∙ here names 4 place (cases 8 3) t refl h
+  -- a term of conformers and atoms: `last` is what the atom says
+  module _ {last : Tri} {told : Bool} (h : OneOf (cases 8 14) (caseOf t)) (e : last ≡ termValue names (atAtom (onlyIf told (some (fieldsOf 0 (recordAt w (at .atom)))))) t) (b : told ≡ between low high 5) where
+    narrows : narrow last (termValue names (window 4 4 place) t) ≡ termValue names place t
+    narrows = ap (λ (x : Tri). narrow x (termValue names (window 4 4 place) t)) (atom-alone e b) ∙ lower names place t h
 
-  pub atom-arm : {r : Tri} {known : Bool} → r ≡ termValue names (atAtom (onlyIf known (some (fieldsOf 0 (recordAt w (at .atom)))))) t → known ≡ between low high 5 → OneOf (cases 11 8 ++ cases 21 1) (caseOf t) → r ≡ termValue names place t
-  atom-arm e b h = atom-alone e b ∙ here names 5 place (cases 11 8 ++ cases 21 1) t refl h
+    pub lower-false : last ≡ False → False ≡ termValue names place t
+    lower-false q = rw q at narrows
 
-  module _ {first : Tri} {told : Bool} (h : OneOf (cases 19 2) (caseOf t)) (e : first ≡ termValue names (atConformer (onlyIf told (some (fieldsOf 1 (recordAt w (at .conformer)))))) t) (b : told ≡ between low high 4) where
-    pub side-arm-false : first ≡ False → False ≡ termValue names place t
-    side-arm-false q = side-false names place t h (sym (conformer-alone e b) ∙ q)
-
-    pub side-arm-true : first ≡ True → True ≡ termValue names place t
-    side-arm-true q = side-true names place t h (sym (conformer-alone e b) ∙ q)
-
-    pub side-arm-left : {r : Tri} {known : Bool} → first ≡ Undecided → r ≡ termValue names (atAtom (onlyIf known (some (fieldsOf 0 (recordAt w (at .atom)))))) t → known ≡ between low high 5 → r ≡ termValue names place t
-    side-arm-left q f d = atom-alone f d ∙ side-left names place t h (sym (conformer-alone e b) ∙ q)
+    pub lower-arm : {r first : Tri} {known : Bool} → r ≡ narrow last first → first ≡ termValue names (atConformer (onlyIf known (some (fieldsOf 1 (recordAt w (at .conformer)))))) t → known ≡ between low high 4 → r ≡ termValue names place t
+    lower-arm q f d = q ∙ ap (narrow last) (conformer-alone f d) ∙ narrows

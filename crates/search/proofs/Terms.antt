@@ -12,7 +12,7 @@ use types.Run.{OneOf}
 use denote.Enum.Declared.{tagOf}
 use Rattle.machine.specs.Lists.{all}
 use Rattle.machine.specs.Record.{Conformer}
-use Rattle.machine.specs.Query.{Place, Names, onlyIf, between, window, known, member, amongResidues, termValue}
+use Rattle.machine.specs.Query.{Place, Names, onlyIf, between, window, member, amongResidues, termValue}
 use Rattle.machine.specs.Find.{nowhere}
 use Rattle.machine.specs.declared.Tri.{Tri}
 use Rattle.machine.specs.declared.Tri.the-variants.{False, True, Undecided}
@@ -20,6 +20,7 @@ use Rattle.machine.specs.declared.Term.{Term}
 use Rattle.machine.specs.declared.Term.the-variants.{ModelSerialNumber, ModelSerialNumberRange, ChainId, ChainIdRange, ResidueSerialNumber, ResidueSerialNumberRange, ResidueInsertionCode, ResidueId, ConformerName, ConformerAlternativeLocation, ConformerId, AtomSerialNumber, AtomSerialNumberRange, AtomName, Element, BFactor, BFactorRange, Occupancy, OccupancyRange, Backbone, SideChain, Hetero}
 use Rattle.machine.proofs.Term.{the-type}
 use Rattle.laws.specs.Lists.{and-both, and-true}
+use Rattle.search.specs.Levels.{narrow}
 
 -- the number of a term's case, from 0
 abbrev pub caseOf : Term → ℕ
@@ -35,8 +36,9 @@ asks g k =
     (cond (eqb g 19 || eqb g 20) (eqb 4 k || eqb 5 k)
     (eqb 5 k)))))
 
-abbrev pub asksOnly : ℕ → ℕ → Bool
-asksOnly g k = asks g k && not (eqb g 19 || eqb g 20)
+-- whether it asks for that level, which stands above the conformers
+abbrev pub asksAbove : ℕ → ℕ → Bool
+asksAbove g k = asks g k && leb g 7
 
 -- the keys of an arm: so many cases from one on
 abbrev pub cases : ℕ → ℕ → List ℕ
@@ -100,7 +102,7 @@ module _ (names : Names) (k : ℕ) (e : Place) where
   other SideChain h = let s = neither (eqb 4 k) (eqb 5 k) h in rw (unseen k 4 (e .conformer) (s .0), unseen k 5 (e .atom) (s .1))
   other Hetero h = rw (unseen k 5 (e .atom) h)
 
-  own : (t : Term) → asksOnly (caseOf t) k ≡ true → termValue names (window k k e) t ≡ termValue names e t
+  own : (t : Term) → asksAbove (caseOf t) k ≡ true → termValue names (window k k e) t ≡ termValue names e t
   unfolding termValue window
   own (ModelSerialNumber n) h = rw (seen k 1 (e .model) (and-both (eqb 1 k) true h .0))
   own (ModelSerialNumberRange a b) h = rw (seen k 1 (e .model) (and-both (eqb 1 k) true h .0))
@@ -110,27 +112,27 @@ module _ (names : Names) (k : ℕ) (e : Place) where
   own (ResidueSerialNumberRange a b) h = rw (seen k 3 (e .residue) (and-both (eqb 3 k) true h .0))
   own (ResidueInsertionCode n) h = rw (seen k 3 (e .residue) (and-both (eqb 3 k) true h .0))
   own (ResidueId a b) h = rw (seen k 3 (e .residue) (and-both (eqb 3 k) true h .0))
-  own (ConformerName n) h = rw (seen k 4 (e .conformer) (and-both (eqb 4 k) true h .0))
-  own (ConformerAlternativeLocation n) h = rw (seen k 4 (e .conformer) (and-both (eqb 4 k) true h .0))
-  own (ConformerId a b) h = rw (seen k 4 (e .conformer) (and-both (eqb 4 k) true h .0))
-  own (AtomSerialNumber n) h = rw (seen k 5 (e .atom) (and-both (eqb 5 k) true h .0))
-  own (AtomSerialNumberRange a b) h = rw (seen k 5 (e .atom) (and-both (eqb 5 k) true h .0))
-  own (AtomName n) h = rw (seen k 5 (e .atom) (and-both (eqb 5 k) true h .0))
-  own (Element n) h = rw (seen k 5 (e .atom) (and-both (eqb 5 k) true h .0))
-  own (BFactor n) h = rw (seen k 5 (e .atom) (and-both (eqb 5 k) true h .0))
-  own (BFactorRange a b) h = rw (seen k 5 (e .atom) (and-both (eqb 5 k) true h .0))
-  own (Occupancy n) h = rw (seen k 5 (e .atom) (and-both (eqb 5 k) true h .0))
-  own (OccupancyRange a b) h = rw (seen k 5 (e .atom) (and-both (eqb 5 k) true h .0))
+  own (ConformerName n) h = absurd (false≢true (and-both (eqb 4 k) false h .1))
+  own (ConformerAlternativeLocation n) h = absurd (false≢true (and-both (eqb 4 k) false h .1))
+  own (ConformerId a b) h = absurd (false≢true (and-both (eqb 4 k) false h .1))
+  own (AtomSerialNumber n) h = absurd (false≢true (and-both (eqb 5 k) false h .1))
+  own (AtomSerialNumberRange a b) h = absurd (false≢true (and-both (eqb 5 k) false h .1))
+  own (AtomName n) h = absurd (false≢true (and-both (eqb 5 k) false h .1))
+  own (Element n) h = absurd (false≢true (and-both (eqb 5 k) false h .1))
+  own (BFactor n) h = absurd (false≢true (and-both (eqb 5 k) false h .1))
+  own (BFactorRange a b) h = absurd (false≢true (and-both (eqb 5 k) false h .1))
+  own (Occupancy n) h = absurd (false≢true (and-both (eqb 5 k) false h .1))
+  own (OccupancyRange a b) h = absurd (false≢true (and-both (eqb 5 k) false h .1))
   own Backbone h = absurd (false≢true (and-both (eqb 4 k || eqb 5 k) false h .1))
   own SideChain h = absurd (false≢true (and-both (eqb 4 k || eqb 5 k) false h .1))
-  own Hetero h = rw (seen k 5 (e .atom) (and-both (eqb 5 k) true h .0))
+  own Hetero h = absurd (false≢true (and-both (eqb 5 k) false h .1))
 
-  -- an arm of cases that don't ask for level k, and an arm of cases that ask for it alone
+  -- an arm of cases that don't ask for level k, and an arm of cases that ask for it, above the conformers
   pub elsewhere : (ks : List ℕ) (t : Term) → all (λ g. not (asks g k)) ks ≡ true → OneOf ks (caseOf t) → Undecided ≡ termValue names (window k k e) t
   elsewhere ks t a h = sym (other t (each-key (λ g. not (asks g k)) ks (caseOf t) a h))
 
-  pub here : (ks : List ℕ) (t : Term) → all (λ g. asksOnly g k) ks ≡ true → OneOf ks (caseOf t) → termValue names (window k k e) t ≡ termValue names e t
-  here ks t a h = own t (each-key (λ g. asksOnly g k) ks (caseOf t) a h)
+  pub here : (ks : List ℕ) (t : Term) → all (λ g. asksAbove g k) ks ≡ true → OneOf ks (caseOf t) → termValue names (window k k e) t ≡ termValue names e t
+  here ks t a h = own t (each-key (λ g. asksAbove g k) ks (caseOf t) a h)
 
 -- no term asks for a level of kind 0, so none tells anything where nothing is known
 asks-none : (g : ℕ) → not (asks g 0) ≡ true
@@ -144,56 +146,51 @@ pub nothing : (names : Names) (t : Term) → Undecided ≡ termValue names nowhe
 unfolding window
 nothing names t = sym (other names 0 nowhere t (asks-none (caseOf t)))
 
--- ---- Backbone and SideChain: what the conformer leaves undecided the atom decides
+-- ---- from the conformers down two levels say what a term's value is
 
-abbrev pub firstT : Tri → Tri → Tri
-firstT False b = False
-firstT True b = True
-firstT Undecided b = b
+narrow-alone : (a : Tri) → narrow a Undecided ≡ a
+narrow-alone False = refl
+narrow-alone True = refl
+narrow-alone Undecided = refl
 
-first-among : (names : Names) (o : Option Conformer) (x : Tri) → firstT (amongResidues names o Undecided) x ≡ amongResidues names o x
-first-among names none x = refl
-first-among names (some c) x = go (member (names .residues) (c .name))
+narrow-false : (a : Tri) → narrow a False ≡ False
+narrow-false False = refl
+narrow-false True = refl
+narrow-false Undecided = refl
+
+narrow-among : (names : Names) (o : Option Conformer) (a : Tri) → narrow a (amongResidues names o Undecided) ≡ amongResidues names o a
+narrow-among names none a = narrow-alone a
+narrow-among names (some c) a = go (member (names .residues) (c .name))
   where
-    go : (b : Bool) → firstT (cond b Undecided False) x ≡ cond b x False
-    go true = refl
-    go false = refl
+    go : (b : Bool) → narrow a (cond b Undecided False) ≡ cond b a False
+    go true = narrow-alone a
+    go false = narrow-false a
 
 module _ (names : Names) (e : Place) where
-  in-turn : (t : Term) → (eqb (caseOf t) 19 || eqb (caseOf t) 20) ≡ true → firstT (termValue names (window 4 4 e) t) (termValue names (window 5 5 e) t) ≡ termValue names e t
+  two-levels : (t : Term) → leb 8 (caseOf t) ≡ true → narrow (termValue names (window 5 5 e) t) (termValue names (window 4 4 e) t) ≡ termValue names e t
   unfolding termValue window
-  in-turn (ModelSerialNumber n) h = absurd (false≢true h)
-  in-turn (ModelSerialNumberRange a b) h = absurd (false≢true h)
-  in-turn (ChainId n) h = absurd (false≢true h)
-  in-turn (ChainIdRange a b) h = absurd (false≢true h)
-  in-turn (ResidueSerialNumber n) h = absurd (false≢true h)
-  in-turn (ResidueSerialNumberRange a b) h = absurd (false≢true h)
-  in-turn (ResidueInsertionCode n) h = absurd (false≢true h)
-  in-turn (ResidueId a b) h = absurd (false≢true h)
-  in-turn (ConformerName n) h = absurd (false≢true h)
-  in-turn (ConformerAlternativeLocation n) h = absurd (false≢true h)
-  in-turn (ConformerId a b) h = absurd (false≢true h)
-  in-turn (AtomSerialNumber n) h = absurd (false≢true h)
-  in-turn (AtomSerialNumberRange a b) h = absurd (false≢true h)
-  in-turn (AtomName n) h = absurd (false≢true h)
-  in-turn (Element n) h = absurd (false≢true h)
-  in-turn (BFactor n) h = absurd (false≢true h)
-  in-turn (BFactorRange a b) h = absurd (false≢true h)
-  in-turn (Occupancy n) h = absurd (false≢true h)
-  in-turn (OccupancyRange a b) h = absurd (false≢true h)
-  in-turn Backbone h = first-among names (e .conformer) _
-  in-turn SideChain h = first-among names (e .conformer) _
-  in-turn Hetero h = absurd (false≢true h)
+  two-levels (ModelSerialNumber n) h = absurd (false≢true h)
+  two-levels (ModelSerialNumberRange a b) h = absurd (false≢true h)
+  two-levels (ChainId n) h = absurd (false≢true h)
+  two-levels (ChainIdRange a b) h = absurd (false≢true h)
+  two-levels (ResidueSerialNumber n) h = absurd (false≢true h)
+  two-levels (ResidueSerialNumberRange a b) h = absurd (false≢true h)
+  two-levels (ResidueInsertionCode n) h = absurd (false≢true h)
+  two-levels (ResidueId a b) h = absurd (false≢true h)
+  two-levels (ConformerName n) h = refl
+  two-levels (ConformerAlternativeLocation n) h = refl
+  two-levels (ConformerId a b) h = refl
+  two-levels (AtomSerialNumber n) h = narrow-alone _
+  two-levels (AtomSerialNumberRange a b) h = narrow-alone _
+  two-levels (AtomName n) h = narrow-alone _
+  two-levels (Element n) h = narrow-alone _
+  two-levels (BFactor n) h = narrow-alone _
+  two-levels (BFactorRange a b) h = narrow-alone _
+  two-levels (Occupancy n) h = narrow-alone _
+  two-levels (OccupancyRange a b) h = narrow-alone _
+  two-levels Backbone h = narrow-among names (e .conformer) _
+  two-levels SideChain h = narrow-among names (e .conformer) _
+  two-levels Hetero h = narrow-alone _
 
-  module _ (t : Term) (h : OneOf (19 ∷ 20 ∷ []) (caseOf t)) where
-    side : firstT (termValue names (window 4 4 e) t) (termValue names (window 5 5 e) t) ≡ termValue names e t
-    side = in-turn t (each-key (λ g. eqb g 19 || eqb g 20) (19 ∷ 20 ∷ []) (caseOf t) refl h)
-
-    pub side-false : termValue names (window 4 4 e) t ≡ False → False ≡ termValue names e t
-    side-false p = rw p at side
-
-    pub side-true : termValue names (window 4 4 e) t ≡ True → True ≡ termValue names e t
-    side-true p = rw p at side
-
-    pub side-left : termValue names (window 4 4 e) t ≡ Undecided → termValue names (window 5 5 e) t ≡ termValue names e t
-    side-left p = rw p at side
+  pub lower : (t : Term) → OneOf (cases 8 14) (caseOf t) → narrow (termValue names (window 5 5 e) t) (termValue names (window 4 4 e) t) ≡ termValue names e t
+  lower t h = two-levels t (each-key (leb 8) (cases 8 14) (caseOf t) refl h)

@@ -2,10 +2,11 @@
 use Prim.Native.Nat.{ℕ, _+_, _*_, _≤_}
 use mathlib.Core.List.{List}
 use mathlib.Core.Option.{Option, none, some}
-use lib.ListN.{length, take, drop}
+use lib.ListN.{length, take, drop, getD}
 use Rattle.machine.specs.Record.{Model, Chain, Residue, Conformer, Atom, fieldsOf}
 use Rattle.machine.specs.Query.{Place, window, termValue}
 use Rattle.machine.specs.declared.Tri.{Tri}
+use Rattle.machine.specs.declared.Tri.the-variants.{False, True, Undecided}
 use Rattle.machine.specs.declared.Term.{Term}
 use Rattle.machine.specs.declared.RecordNumbers.{RecordNumbers}
 
@@ -42,6 +43,18 @@ placeAt w at =
 -- the terms' values there with the kinds from low to high alone known, by lists of residue names and of atom names
 abbrev pub valueAt : List ℕ → RecordNumbers → ℕ → ℕ → List ℕ → List ℕ → Term → Tri
 valueAt w at low high residues atoms = termValue (record { residues = residues; atoms = atoms }) (window low high (placeAt w at))
+
+-- what two levels say of a term: false if either does, else what one of them decides
+abbrev pub narrow : Tri → Tri → Tri
+narrow False b = False
+narrow True False = False
+narrow True True = True
+narrow True Undecided = True
+narrow Undecided b = b
+
+-- five record numbers, from the model's down
+abbrev pub numbersIn : List ℕ → RecordNumbers
+numbersIn l = record { model = getD l 0 0; chain = getD l 1 0; residue = getD l 2 0; conformer = getD l 3 0; atom = getD l 4 0 }
 
 -- the five records stand in the words
 pub record Inside (w : List ℕ) (at : RecordNumbers) : Type 0 where

@@ -1,14 +1,14 @@
 -- A tree's nodes read without a check, and the number of operands that they leave. Assumes nothing.
-use Prim.Native.Nat.{ℕ, zero, suc}
-use mathlib.Core.Bool.{Bool, false, _&&_}
+use Prim.Native.Nat.{ℕ, zero, suc, _+_, _-_}
+use mathlib.Core.Bool.{Bool, false, _&&_, cond}
 use mathlib.Core.List.{List, [], _∷_}
 use mathlib.Core.Option.{Option, none, some}
+use lib.Dec.{ltb}
 use Rattle.machine.specs.Answer.{Result, ok, refused, _>>=_}
 use Rattle.machine.specs.Query.{Code, codeAt, goodParameter, nodeOf}
 use Rattle.machine.specs.declared.Node.{Node}
 use Rattle.machine.specs.declared.Node.the-variants.{Single, Binary, Not, Known}
 use Rattle.machine.specs.declared.Refusal.the-variants.{TreeShape}
-use Rattle.search.specs.declared.MaybeNode as MaybeNode
 use Rattle.search.specs.declared.MaybeDepth as MaybeDepth
 use Rattle.search.specs.declared.CheckedTree as CheckedTree
 
@@ -26,10 +26,6 @@ fits (some k) p q = goodParameter (k .p) p && goodParameter (k .q) q
 
 unfoldable pub goodNode : ℕ → ℕ → ℕ → Bool
 goodNode c p q = fits (codeAt c) p q
-
-abbrev pub maybeNode : Result Node → MaybeNode.MaybeNode
-maybeNode (ok n) = MaybeNode.the-variants.Is n
-maybeNode (refused r) = MaybeNode.the-variants.Refused
 
 -- the nodes of a tree's words; words after the last three are none
 unfoldable pub nodesIn : List ℕ → List Node
@@ -51,6 +47,14 @@ deeper Not (suc zero) = zero
 deeper Not (suc (suc d)) = suc (suc d)
 deeper (Known b) zero = zero
 deeper (Known b) (suc d) = suc (suc d)
+
+-- the same by the least number at which a node finds its operands
+abbrev pub leftBy : ℕ → ℕ → ℕ
+leftBy least d = cond (ltb d least) 0 (d + 2 - least)
+
+-- the same for a node's words, or the refusal of the node
+abbrev pub deeperBy : ℕ → ℕ → ℕ → ℕ → Result ℕ
+deeperBy c p q d = nodeOf c p q >>= λ n. ok (deeper n d)
 
 -- the same after all nodes of a tree's words, or the first refusal of a node
 unfoldable pub depthOf : ℕ → List ℕ → Result ℕ

@@ -18,15 +18,11 @@ ghost use Rattle.machine.specs.Record.{fieldsOf};
 ghost use Rattle.machine.specs.Query as Query;
 ghost use Rattle.machine.specs.declared.Tri.the-variants.{False, Undecided};
 ghost use Rattle.machine.specs.declared.Node.the-variants.{Single};
-ghost use Rattle.search.specs.Levels.{atModel, atChain, atResidue, atConformer, atAtom, recordAt, valueAt, Inside};
-ghost use Rattle.search.specs.Nodes.{nodeFor, goodNode, maybeNode, deeper, depthOf, maybeDepth, checked};
+ghost use Rattle.search.specs.Levels.{atModel, atChain, atResidue, atConformer, atAtom, recordAt, valueAt, narrow, numbersIn, Inside};
+ghost use Rattle.search.specs.Nodes.{nodeFor, goodNode, leftBy, deeperBy, depthOf, maybeDepth, checked};
 ghost use Rattle.search.specs.Value.{Operand, Evaluated};
+ghost use Rattle.search.specs.declared.MaybeDepth.the-variants as MaybeDepth;
 ghost use Rattle.search.specs.declared.CheckedTree.the-variants.{Good};
-
-pub enum MaybeNode {
-    Is(Node),
-    Refused,
-}
 
 pub enum CheckedTree {
     Good,
@@ -304,7 +300,23 @@ fn atom_value(t: Term, words: &[u64], number: u64, known: bool, atoms: &[u64]) -
     }
 }
 
-// Only the record of the level that the term asks for is read, where its kind is one from low to high.
+// What two levels say of a term: false if either does, else what one of them decides.
+fn narrowed(a: Tri, b: Tri) -> Tri
+    ensures { λ r. ⌜ r ≡ narrow a b ⌝ }
+{
+    match a {
+        Tri::False => Tri::False,
+        Tri::True => match b {
+            Tri::False => Tri::False,
+            Tri::True => Tri::True,
+            Tri::Undecided => Tri::True,
+        },
+        Tri::Undecided => b,
+    }
+}
+
+// Only words that the term asks for are read, of records whose kind is one from low to high. Backbone and SideChain ask
+// for two records: the atom's first, as the conformer's names are the longer list.
 fn term_value(
     t: Term,
     words: &[u64],
@@ -328,17 +340,16 @@ fn term_value(
         | Term::ResidueSerialNumberRange(_, _)
         | Term::ResidueInsertionCode(_)
         | Term::ResidueId(_, _) => residue_value(t, words, at.residue, between(low, high, 3)),
-        Term::ConformerName(_) | Term::ConformerAlternativeLocation(_) | Term::ConformerId(_, _) =>
-            conformer_value(t, words, at.conformer, between(low, high, 4), residues),
-        Term::Backbone | Term::SideChain => {
-            let first = conformer_value(t, words, at.conformer, between(low, high, 4), residues);
-            match first {
-                Tri::Undecided => atom_value(t, words, at.atom, between(low, high, 5), atoms),
+        _ => {
+            let last = atom_value(t, words, at.atom, between(low, high, 5), atoms);
+            match last {
                 Tri::False => Tri::False,
-                Tri::True => Tri::True,
+                _ => narrowed(
+                    last,
+                    conformer_value(t, words, at.conformer, between(low, high, 4), residues),
+                ),
             }
         }
-        _ => atom_value(t, words, at.atom, between(low, high, 5), atoms),
     }
 }
 
@@ -412,34 +423,41 @@ fn good_node(code: u64, p: u64, q: u64) -> bool
     }
 }
 
-pub fn node_at(code: u64, p: u64, q: u64) -> MaybeNode
-    ensures { λ r. ⌜ r ≡ maybeNode (Query.nodeOf code p q) ⌝ }
-{
-    if good_node(code, p, q) {
-        MaybeNode::Is(node_of(code, p, q))
-    } else {
-        MaybeNode::Refused
-    }
-}
-
 // ---- the check of a tree
-
-// One more than the number of operands after a node, or 0 where an operand is missing.
-fn deeper_by(n: Node, d: usize) -> usize
-    requires { ⌜ d < 1000 ⌝ }
-    ensures { λ r. ⌜ r ≡ deeper n d ⌝ }
-{
-    match n {
-        Node::Single(_) => if d < 1 { 0 } else { d + 1 },
-        Node::Binary(_) => if d < 3 { 0 } else { d - 1 },
-        Node::Not => if d < 2 { 0 } else { d },
-        Node::Known(_) => if d < 1 { 0 } else { d + 1 },
-    }
-}
 
 enum MaybeDepth {
     Is(usize),
     Refused,
+}
+
+// One more than the number of operands after a node, or 0 where an operand is missing: `least` is one more than it takes.
+fn left_by(least: usize, d: usize) -> MaybeDepth
+    requires { ⌜ d < 1000 ⌝ }
+    ensures { λ r. ⌜ r ≡ MaybeDepth.Is (leftBy least d) ⌝ }
+{
+    if d < least {
+        MaybeDepth::Is(0)
+    } else {
+        MaybeDepth::Is(d + 2 - least)
+    }
+}
+
+// The same by the range of a node's code, or its refusal.
+fn deeper_by(code: u64, p: u64, q: u64, d: usize) -> MaybeDepth
+    requires { ⌜ d < 1000 ⌝ }
+    ensures { λ r. ⌜ r ≡ maybeDepth (deeperBy code p q d) ⌝ }
+{
+    if good_node(code, p, q) {
+        match code {
+            1..=22 => left_by(1, d),
+            23..=25 => left_by(3, d),
+            26 => left_by(2, d),
+            27..=28 => left_by(1, d),
+            _ => MaybeDepth::Refused,
+        }
+    } else {
+        MaybeDepth::Refused
+    }
 }
 
 fn depth_of(tree: &[u64]) -> MaybeDepth
@@ -449,11 +467,11 @@ fn depth_of(tree: &[u64]) -> MaybeDepth
     let mut d: usize = 1;
     let mut i: usize = 0;
     while i < tree.len() {
-        let n = node_at(tree[i], tree[i + 1], tree[i + 2]);
-        let MaybeNode::Is(m) = n else {
+        let next = deeper_by(tree[i], tree[i + 1], tree[i + 2], d);
+        let MaybeDepth::Is(e) = next else {
             return MaybeDepth::Refused;
         };
-        d = deeper_by(m, d);
+        d = e;
         i += 3;
     }
     MaybeDepth::Is(d)
@@ -516,24 +534,44 @@ fn connection(o: Ops, a: Part, b: Part) -> Part
     }
 }
 
+// A place's five record numbers, from the model's down.
+fn numbers(place: &[u64; 5]) -> RecordNumbers
+    ensures { λ r. ⌜ r ≡ numbersIn (now (place .entry)) ⌝ }
+{
+    RecordNumbers {
+        model: place[0],
+        chain: place[1],
+        residue: place[2],
+        conformer: place[3],
+        atom: place[4],
+    }
+}
+
+// The same words, lent anew: a slice that a function passes on as it came is copied wherever the function starts.
+fn anew(words: &[u64]) -> &[u64]
+    ensures { λ r. ⌜ now r ≡ now (words .entry) ⌝ }
+{
+    &words[0..]
+}
+
 // The last operand of nodes in postfix order: its own last node, and before that its operands, by recursion.
 fn evaluate(
     tree: &[u64],
     words: &[u64],
-    at: RecordNumbers,
+    place: &[u64; 5],
     low: u64,
     high: u64,
     residues: &[u64],
     atoms: &[u64],
 ) -> Part
-    requires { ⌜ Operand (valueAt (now words) at low high (now residues) (now atoms)) (now tree) × Inside (now words) at ⌝ }
-    ensures { λ r. ⌜ Evaluated (valueAt (now (words .entry)) at low high (now (residues .entry)) (now (atoms .entry))) (now (tree .entry)) r ⌝ }
+    requires { ⌜ Operand (valueAt (now words) (numbersIn (now place)) low high (now residues) (now atoms)) (now tree) × Inside (now words) (numbersIn (now place)) ⌝ }
+    ensures { λ r. ⌜ Evaluated (valueAt (now (words .entry)) (numbersIn (now (place .entry))) low high (now (residues .entry)) (now (atoms .entry))) (now (tree .entry)) r ⌝ }
 {
     let i = tree.len() - 3;
     let n = node_of(tree[i], tree[i + 1], tree[i + 2]);
     match n {
         Node::Single(t) => {
-            let v = term_value(t, words, at, low, high, residues, atoms);
+            let v = term_value(t, words, numbers(place), low, high, residues, atoms);
             Part { value: v, start: i }
         }
         Node::Known(b) => {
@@ -541,13 +579,13 @@ fn evaluate(
             Part { value: v, start: i }
         }
         Node::Not => {
-            let a = evaluate(&tree[..i], words, at, low, high, residues, atoms);
+            let a = evaluate(&tree[..i], anew(words), place, low, high, residues, atoms);
             negation(a)
         }
         Node::Binary(o) => {
-            let b = evaluate(&tree[..i], words, at, low, high, residues, atoms);
+            let b = evaluate(&tree[..i], anew(words), place, low, high, residues, atoms);
             let m = b.start;
-            let a = evaluate(&tree[..m], words, at, low, high, residues, atoms);
+            let a = evaluate(&tree[..m], anew(words), place, low, high, residues, atoms);
             connection(o, a, b)
         }
     }
@@ -566,6 +604,7 @@ pub fn value(
     requires { ⌜ (checked (Query.readTree (now tree)) ≡ Good) × Inside (now words) at ⌝ }
     ensures { λ r. ⌜ r ≡ Query.treeValue (valueAt (now (words .entry)) at low high (now (residues .entry)) (now (atoms .entry))) (now (tree .entry)) ⌝ }
 {
-    let p = evaluate(tree, words, at, low, high, residues, atoms);
+    let place = [at.model, at.chain, at.residue, at.conformer, at.atom];
+    let p = evaluate(tree, words, &place, low, high, residues, atoms);
     p.value
 }

@@ -15,7 +15,6 @@ use Rattle.machine.specs.Kleene.{isHit}
 use Rattle.machine.specs.Query.{Names, treeValue, termValue, readTree, tables}
 use Rattle.machine.specs.Find.{Site, atomsOf, hitsIn, hitsOf, hitWords, written, findRun}
 use Rattle.machine.specs.declared.RecordNumbers.{RecordNumbers}
-use Rattle.machine.specs.declared.Tri.{Tri}
 use Rattle.machine.specs.declared.Node.{Node}
 use Rattle.machine.specs.declared.Refusal.{Refusal}
 use Rattle.machine.specs.declared.Refusal.the-variants.{ShortOutput}
@@ -32,10 +31,11 @@ use Rattle.store.specs.Laws.{Held, good-store, refused-find}
 use Rattle.store.specs.declared.Checked as Checked
 use Rattle.search.specs.Nodes.{checked}
 use Rattle.search.specs.declared.CheckedTree as CheckedTree
-use Rattle.search.specs.Levels.{Inside, valueAt}
-use Rattle.walk.specs.Walk.{five, pick, enteredAt, depthAfter, foundIn, wrote, Levelled, UpTo, Ready, Asked, start}
+use Rattle.search.specs.Levels.{Inside}
+use Rattle.walk.specs.Walk.{five, pick, enteredAt, valueBy, Sure, Turned, foundIn, wrote, Levelled, UpTo, Ready, Asked, start}
+use Rattle.walk.specs.declared.State.{State}
 use Rattle.walk.specs.Laws.{whole-levels, found-whole}
-use Rattle.walk.proofs.Turns.{found-end, found-deep, found-next}
+use Rattle.walk.proofs.Turns.{sure-entered, found-end, found-deep, found-next}
 
 -- ---- the numbers at hand
 
@@ -64,27 +64,25 @@ depth-high k h false = omega arith
 pub entered-law : (n : ℕ) (at : RecordNumbers) {k j : ℕ} → k ≡ j → enteredAt j n at ≡ enteredAt k n at
 entered-law n at e = sym (ap (λ (i : ℕ). enteredAt i n at) e)
 
-pub after-law : (k : ℕ) {v x : Tri} {b c : Bool} → v ≡ x → b ≡ isHit v → b ≡ c → cond c k (k - 1) ≡ depthAfter k x
-after-law k e g h = ap (λ (y : Bool). cond y k (k - 1)) (sym h ∙ g ∙ ap isHit e)
-
 -- ---- counting
 
 -- `hits` are all, of which `found` stood before record n
-pub record Walking (w t residues atoms : List ℕ) (low end : ℕ) (hits : List (List ℕ)) (n d : ℕ) (at : RecordNumbers) (found : ℕ) : Type 0 where
+pub record Walking (w t residues atoms : List ℕ) (low end : ℕ) (hits : List (List ℕ)) (n d s : ℕ) (at : RecordNumbers) (found : ℕ) : Type 0 where
   pub order : n ≤ end
   pub room : end * 12 ≤ length w
   pub kinds : All Levelled (between n end w)
   pub depth : d ≤ 5
+  pub sure : Sure (valueBy w t low residues atoms at) s 5
   pub numbers : UpTo n at
   pub few : found ≤ n
   pub all : found + length (foundIn w n end t low d at residues atoms) ≡ length hits
 
 pub walk-start : (w t residues atoms : List ℕ) (low from end d : ℕ) (at : RecordNumbers) → Ready w from end t d at
-    → Walking w t residues atoms low end (foundIn w from end t low d at residues atoms) from d at 0
+    → Walking w t residues atoms low end (foundIn w from end t low d at residues atoms) from d 5 at 0
 walk-start w t residues atoms low from end d at r =
-    record { order = r .within .order; room = r .within .room; kinds = r .kinds; depth = r .depth; numbers = r .numbers; few = omega arith; all = omega arith }
+    record { order = r .within .order; room = r .within .room; kinds = r .kinds; depth = r .depth; sure = λ z. absurd (omega arith); numbers = r .numbers; few = omega arith; all = omega arith }
 
-module _ (w t residues atoms : List ℕ) (low end : ℕ) (hits : List (List ℕ)) (n d : ℕ) (at : RecordNumbers) (found : ℕ) (i : Walking w t residues atoms low end hits n d at found) where
+module _ (w t residues atoms : List ℕ) (low end : ℕ) (hits : List (List ℕ)) (n d s : ℕ) (at : RecordNumbers) (found : ℕ) (i : Walking w t residues atoms low end hits n d s at found) where
   abbrev k : ℕ
   k = getD w (n * 12) 0
 
@@ -101,13 +99,14 @@ module _ (w t residues atoms : List ℕ) (low end : ℕ) (hits : List (List ℕ)
     most : k ≤ 5
     most = omega (arith, split .0 .high, record-kind w n)
 
-    pub walk-deep : d + 1 < k → Walking w t residues atoms low end hits (n + 1) d at found
+    pub walk-deep : d + 1 < k → Walking w t residues atoms low end hits (n + 1) d s at found
     walk-deep h =
         record {
           order = omega arith;
           room = i .room;
           kinds = split .1;
           depth = i .depth;
+          sure = i .sure;
           numbers = up-next n at (i .numbers);
           few = omega (arith, i .few);
           all = omega (arith, i .all, ap length (found-deep w t residues atoms low end n d at more (i .depth) h));
@@ -122,37 +121,42 @@ module _ (w t residues atoms : List ℕ) (low end : ℕ) (hits : List (List ℕ)
           let r = i .room in
           record { model = omega (arith, up .model); chain = omega (arith, up .chain); residue = omega (arith, up .residue); conformer = omega (arith, up .conformer); atom = omega (arith, up .atom) }
 
-      module _ (near : k ≤ d + 1) (d′ : ℕ) (after : d′ ≡ depthAfter k (treeValue (valueAt w to low k residues atoms) t)) where
-        pub walk-on : (b : Bool) → eqb d′ 5 ≡ b → foundIn w n end t low d at residues atoms ≡ keep b (five to) (foundIn w (n + 1) end t low d′ to residues atoms)
+      pub walk-sure : Sure (valueBy w t low residues atoms to) s k
+      walk-sure = sure-entered w t low residues atoms s k n at to is least most (i .sure)
+
+      module _ (near : k ≤ d + 1) (r : State) (turned : Turned (valueBy w t low residues atoms to) k r) where
+        pub walk-on : (b : Bool) → eqb (r .live) 5 ≡ b → foundIn w n end t low d at residues atoms ≡ keep b (five to) (foundIn w (n + 1) end t low (r .live) to residues atoms)
         walk-on b e =
-            found-next w t residues atoms low end n d at more (i .depth) least most near to d′ is after
-            ∙ ap (λ (x : Bool). keep x (five to) (foundIn w (n + 1) end t low d′ to residues atoms)) e
+            found-next w t residues atoms low end n d at more (i .depth) least most near to (r .live) is (turned .live)
+            ∙ ap (λ (x : Bool). keep x (five to) (foundIn w (n + 1) end t low (r .live) to residues atoms)) e
 
-        high : d′ ≤ 5
-        high = rw after (depth-high k most (isHit (treeValue (valueAt w to low k residues atoms) t)))
+        high : r .live ≤ 5
+        high = rw (turned .live) (depth-high k most (isHit (valueBy w t low residues atoms to k)))
 
-        pub walk-hit : d′ ≡ 5 → Walking w t residues atoms low end hits (n + 1) d′ to (found + 1)
+        pub walk-hit : r .live ≡ 5 → Walking w t residues atoms low end hits (n + 1) (r .live) (r .sure) to (found + 1)
         walk-hit e =
             record {
               order = omega arith;
               room = i .room;
               kinds = split .1;
               depth = high;
+              sure = turned .sure;
               numbers = up-next n to up;
               few = omega (arith, i .few);
-              all = omega (arith, i .all, ap length (walk-on true (eq-eqb d′ 5 e)));
+              all = omega (arith, i .all, ap length (walk-on true (eq-eqb (r .live) 5 e)));
             }
 
-        pub walk-miss : (d′ ≡ 5 → ⊥) → Walking w t residues atoms low end hits (n + 1) d′ to found
+        pub walk-miss : (r .live ≡ 5 → ⊥) → Walking w t residues atoms low end hits (n + 1) (r .live) (r .sure) to found
         walk-miss e =
             record {
               order = omega arith;
               room = i .room;
               kinds = split .1;
               depth = high;
+              sure = turned .sure;
               numbers = up-next n to up;
               few = omega (arith, i .few);
-              all = omega (arith, i .all, ap length (walk-on false (ne-eqb d′ 5 e)));
+              all = omega (arith, i .all, ap length (walk-on false (ne-eqb (r .live) 5 e)));
             }
 
 -- ---- writing
@@ -169,68 +173,68 @@ put-law out word at h =
     rw (e, f, g, i) (sets-eq (five at) out word h ∙ append-assoc (take word out) (five at) (drop (word + 5) out))
 
 -- the hits still to come, written where they go, make the output whole
-pub record Writing (w t residues atoms : List ℕ) (low end : ℕ) (hits : List (List ℕ)) (out₀ : List ℕ) (n d : ℕ) (at : RecordNumbers) (found : ℕ) (out : List ℕ) : Type 0 where
-  pub walking : Walking w t residues atoms low end hits n d at found
+pub record Writing (w t residues atoms : List ℕ) (low end : ℕ) (hits : List (List ℕ)) (out₀ : List ℕ) (n d s : ℕ) (at : RecordNumbers) (found : ℕ) (out : List ℕ) : Type 0 where
+  pub walking : Walking w t residues atoms low end hits n d s at found
   pub long : length out ≡ length out₀
   pub words : over (found * 5) (hitWords (foundIn w n end t low d at residues atoms)) out ≡ over 0 (hitWords hits) out₀
 
 pub write-start : (w t residues atoms : List ℕ) (low from end d : ℕ) (at : RecordNumbers) (out : List ℕ) → Ready w from end t d at
-    → Writing w t residues atoms low end (foundIn w from end t low d at residues atoms) out from d at 0 out
+    → Writing w t residues atoms low end (foundIn w from end t low d at residues atoms) out from d 5 at 0 out
 write-start w t residues atoms low from end d at out r = record { walking = walk-start w t residues atoms low from end d at r; long = refl; words = refl }
 
-module _ (w t residues atoms : List ℕ) (low end : ℕ) (hits : List (List ℕ)) (out₀ : List ℕ) (n d : ℕ) (at : RecordNumbers) (found : ℕ) (out : List ℕ) (i : Writing w t residues atoms low end hits out₀ n d at found out) where
+module _ (w t residues atoms : List ℕ) (low end : ℕ) (hits : List (List ℕ)) (out₀ : List ℕ) (n d s : ℕ) (at : RecordNumbers) (found : ℕ) (out : List ℕ) (i : Writing w t residues atoms low end hits out₀ n d s at found out) where
   abbrev kindAt : ℕ
   kindAt = getD w (n * 12) 0
 
   abbrev put : List (List ℕ) → List ℕ
   put hs = over (found * 5) (hitWords hs) out
 
-  walk : Walking w t residues atoms low end hits n d at found
+  walk : Walking w t residues atoms low end hits n d s at found
   walk = i .walking
 
   pub write-end : end ≤ n → (found, out) ≡ wrote hits out₀
   write-end h =
-      let c = walk-end w t residues atoms low end hits n d at found walk h in
+      let c = walk-end w t residues atoms low end hits n d s at found walk h in
       let o : out ≡ over 0 (hitWords hits) out₀ = sym (over-none (found * 5) out) ∙ ap put (sym (found-end w t residues atoms low end n d at h)) ∙ i .words in
       λ j. (c j, o j)
 
   module _ (more : n < end) where
-    pub write-deep : d + 1 < kindAt → Writing w t residues atoms low end hits out₀ (n + 1) d at found out
+    pub write-deep : d + 1 < kindAt → Writing w t residues atoms low end hits out₀ (n + 1) d s at found out
     write-deep h =
         record {
-          walking = walk-deep w t residues atoms low end hits n d at found walk more h;
+          walking = walk-deep w t residues atoms low end hits n d s at found walk more h;
           long = i .long;
           words = ap put (sym (found-deep w t residues atoms low end n d at more (walk .depth) h)) ∙ i .words;
         }
 
-    module _ (to : RecordNumbers) (is : to ≡ enteredAt kindAt n at) (near : kindAt ≤ d + 1) (d′ : ℕ) (after : d′ ≡ depthAfter kindAt (treeValue (valueAt w to low kindAt residues atoms) t)) where
-      on : (b : Bool) → eqb d′ 5 ≡ b → foundIn w n end t low d at residues atoms ≡ keep b (five to) (foundIn w (n + 1) end t low d′ to residues atoms)
-      on = walk-on w t residues atoms low end hits n d at found walk more to is near d′ after
+    module _ (to : RecordNumbers) (is : to ≡ enteredAt kindAt n at) (near : kindAt ≤ d + 1) (r : State) (turned : Turned (valueBy w t low residues atoms to) kindAt r) where
+      on : (b : Bool) → eqb (r .live) 5 ≡ b → foundIn w n end t low d at residues atoms ≡ keep b (five to) (foundIn w (n + 1) end t low (r .live) to residues atoms)
+      on = walk-on w t residues atoms low end hits n d s at found walk more to is near r turned
 
-      pub write-miss : (d′ ≡ 5 → ⊥) → Writing w t residues atoms low end hits out₀ (n + 1) d′ to found out
+      pub write-miss : (r .live ≡ 5 → ⊥) → Writing w t residues atoms low end hits out₀ (n + 1) (r .live) (r .sure) to found out
       write-miss e =
           record {
-            walking = walk-miss w t residues atoms low end hits n d at found walk more to is near d′ after e;
+            walking = walk-miss w t residues atoms low end hits n d s at found walk more to is near r turned e;
             long = i .long;
-            words = ap put (sym (on false (ne-eqb d′ 5 e))) ∙ i .words;
+            words = ap put (sym (on false (ne-eqb (r .live) 5 e))) ∙ i .words;
           }
 
-      module _ (fits : 5 * length hits ≤ length out₀) (e : d′ ≡ 5) where
+      module _ (fits : 5 * length hits ≤ length out₀) (e : r .live ≡ 5) where
         pub write-room : found * 5 + 5 ≤ length out
-        write-room = omega (arith, walk .all, i .long, ap length (on true (eq-eqb d′ 5 e)))
+        write-room = omega (arith, walk .all, i .long, ap length (on true (eq-eqb (r .live) 5 e)))
 
-        pub write-hit : (out′ : List ℕ) → out′ ≡ over (found * 5) (five to) out → Writing w t residues atoms low end hits out₀ (n + 1) d′ to (found + 1) out′
+        pub write-hit : (out′ : List ℕ) → out′ ≡ over (found * 5) (five to) out → Writing w t residues atoms low end hits out₀ (n + 1) (r .live) (r .sure) to (found + 1) out′
         write-hit out′ p =
-            let rest = hitWords (foundIn w (n + 1) end t low d′ to residues atoms) in
+            let rest = hitWords (foundIn w (n + 1) end t low (r .live) to residues atoms) in
             let z : (found + 1) * 5 ≡ found * 5 + 5 = omega arith in
             let room = write-room in
             record {
-              walking = walk-hit w t residues atoms low end hits n d at found walk more to is near d′ after e;
+              walking = walk-hit w t residues atoms low end hits n d s at found walk more to is near r turned e;
               long = ap length p ∙ over-length (found * 5) (five to) out room ∙ i .long;
               words = ap (λ (x : ℕ). over x rest out′) z
                   ∙ ap (over (found * 5 + 5) rest) p
                   ∙ over-over (found * 5) (five to) rest out (omega arith)
-                  ∙ ap put (sym (on true (eq-eqb d′ 5 e)))
+                  ∙ ap put (sym (on true (eq-eqb (r .live) 5 e)))
                   ∙ i .words;
             }
 

@@ -24,7 +24,7 @@ only-more : {A : Type 0} (a b : Bool) (o : Option A) → (a ≡ true → b ≡ t
 only-more false b o i = refl
 only-more true b o i = rw (i refl)
 
-window-window : (a b : ℕ) → a ≤ b → (e : Place) → window 1 a (window 1 b e) ≡ window 1 a e
+pub window-window : (a b : ℕ) → a ≤ b → (e : Place) → window 1 a (window 1 b e) ≡ window 1 a e
 unfolding window
 window-window a b l e =
     let up : (j : ℕ) → leb j a ≡ true → leb j b ≡ true = λ j h. le-leb j b (omega (arith, leb-true j a h)) in

@@ -1,5 +1,5 @@
 -- What the contracts of `src/` cite: the walk's state as a site of the store, and what is found from there on. Assumes nothing.
-use Prim.Native.Nat.{ℕ, _-_, _≤_}
+use Prim.Native.Nat.{ℕ, _-_, _≤_, _<_}
 use mathlib.Core.Path.{_≡_}
 use mathlib.Core.Bool.{Bool, true, false, cond}
 use mathlib.Core.List.{List, [], _∷_, map}
@@ -12,13 +12,15 @@ use Rattle.machine.specs.Query.{Names, readTree, treeValue, termValue, window}
 use Rattle.machine.specs.Find.{Site, hitWords}
 use Rattle.machine.specs.declared.RecordNumbers.{RecordNumbers}
 use Rattle.machine.specs.declared.Tri.{Tri}
+use Rattle.machine.specs.declared.Tri.the-variants.{True}
 use Rattle.laws.specs.Lists.{All}
 use Rattle.moves.specs.Over.{over}
 use Rattle.seek.specs.Seek.{Good, Within, between, held}
-use Rattle.search.specs.Levels.{placeAt}
+use Rattle.search.specs.Levels.{placeAt, valueAt}
 use Rattle.search.specs.Nodes.{checked}
 use Rattle.search.specs.declared.CheckedTree as CheckedTree
 use Rattle.walk.specs.Sieve.{sieve}
+use Rattle.walk.specs.declared.State.{State}
 
 -- ---- the state: five record numbers, of which the first d are the records that the next one may stand under
 
@@ -47,6 +49,19 @@ enteredAt k n at =
 -- how many records the next one may stand under, by a tree's value at a record of kind k: one that is false isn't entered
 abbrev pub depthAfter : ℕ → Tri → ℕ
 depthAfter k v = cond (isHit v) k (k - 1)
+
+-- a tree's value at five records, by the last kind that is known
+abbrev pub valueBy : List ℕ → List ℕ → ℕ → List ℕ → List ℕ → RecordNumbers → ℕ → Tri
+valueBy w t low residues atoms at k = treeValue (valueAt w at low k residues atoms) t
+
+-- with kinds up to s known the value is true, where s is below k
+abbrev pub Sure : (ℕ → Tri) → ℕ → ℕ → Type 0
+Sure v s k = s < k → v s ≡ True
+
+-- the state after a record of kind k, at which the tree has the value v k
+pub record Turned (v : ℕ → Tri) (k : ℕ) (r : State) : Type 0 where
+  pub live : r .live ≡ depthAfter k (v k)
+  pub sure : Sure v (r .sure) 5
 
 -- ---- what is found
 

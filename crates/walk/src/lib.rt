@@ -1,4 +1,5 @@
-// Find's pruned walk (document 01, "Trees and find"): one pass over a store's records, which looks below none where the tree is false.
+// Find's pruned walk (document 01, "Trees and find"): one pass over a store's records, which looks below none where the tree is false,
+// and evaluates it below none where it is true.
 use machine::Found;
 use machine::RecordNumbers;
 use machine::Refusal;
@@ -10,15 +11,14 @@ ghost use Prim.Native.Nat.{_+_, _*_, _≤_};
 ghost use lib.ListN.{length};
 ghost use lib.Dec.{leb};
 ghost use Rattle.machine.specs.Answer.{foundNumbers};
-ghost use Rattle.machine.specs.Kleene.{isHit};
-ghost use Rattle.machine.specs.Query.{readTree, treeValue};
+ghost use Rattle.machine.specs.Query.{readTree};
 ghost use Rattle.machine.specs.Find.{hitsIn, findRun};
 ghost use Rattle.moves.specs.Over.{over};
 ghost use Rattle.seek.specs.Seek.{held};
-ghost use Rattle.search.specs.Levels.{valueAt, Inside};
+ghost use Rattle.search.specs.Levels.{Inside};
 ghost use Rattle.search.specs.Nodes.{checked};
 ghost use Rattle.search.specs.declared.CheckedTree.the-variants.{Good};
-ghost use Rattle.walk.specs.Walk.{five, start as startAt, enteredAt, depthAfter, foundIn, wrote, Ready, Asked};
+ghost use Rattle.walk.specs.Walk.{five, start as startAt, enteredAt, valueBy, Sure, Turned, foundIn, wrote, Ready, Asked};
 
 // ---- a turn
 
@@ -77,33 +77,46 @@ fn entered(kind: u64, n: u64, at: RecordNumbers) -> RecordNumbers
     }
 }
 
-// "Undecided counts as a hit."
-fn is_hit(v: Tri) -> bool
-    ensures { λ r. ⌜ r ≡ isHit v ⌝ }
-{
-    match v {
-        Tri::False => false,
-        Tri::True => true,
-        Tri::Undecided => true,
+// Beside the last records that were seen: how many of them the next one may stand under, and the kind of one at which the
+// tree is true, so that what is below needs no look. No record is of a kind above 5, which stands for none.
+struct State {
+    live: u64,
+    sure: u64,
+}
+
+impl State {
+    fn new(live: u64, sure: u64) -> State
+        ensures { λ r. ⌜ r ≡ record { live = live; sure = sure } ⌝ }
+    {
+        State { live, sure }
     }
 }
 
-// How many records the next one may stand under: what is below a record where the tree is false is too deep then.
-// An atom is a hit where this is 5.
-fn depth_after(
+// After a record that is entered. What is below one where the tree is false is too deep then; "Undecided counts as a hit".
+// An atom is a hit where `live` is 5.
+fn turn(
     store: &[u64],
     tree: &[u64],
     at: RecordNumbers,
     low: u64,
     kind: u64,
+    sure: u64,
     residues: &[u64],
     atoms: &[u64],
-) -> u64
-    requires { ⌜ (checked (readTree (now tree)) ≡ Good) × Inside (now store) at × (1 ≤ kind) ⌝ }
-    ensures { λ r. ⌜ r ≡ depthAfter kind (treeValue (valueAt (now (store .entry)) at low kind (now (residues .entry)) (now (atoms .entry))) (now (tree .entry))) ⌝ }
+) -> State
+    requires { ⌜ (checked (readTree (now tree)) ≡ Good) × Inside (now store) at × (1 ≤ kind) × Sure (valueBy (now store) (now tree) low (now residues) (now atoms) at) sure kind ⌝ }
+    ensures { λ r. ⌜ Turned (valueBy (now (store .entry)) (now (tree .entry)) low (now (residues .entry)) (now (atoms .entry)) at) kind r ⌝ }
 {
+    if sure < kind {
+        return State::new(kind, sure);
+    }
+    let above = kind - 1;
     let v = search::value(tree, store, at, low, kind, residues, atoms);
-    if is_hit(v) { kind } else { kind - 1 }
+    match v {
+        Tri::False => State::new(above, 5),
+        Tri::True => State::new(kind, kind),
+        Tri::Undecided => State::new(kind, 5),
+    }
 }
 
 // ---- a pass
@@ -125,6 +138,7 @@ pub fn count_in(
 {
     let mut at = first;
     let mut live = depth;
+    let mut sure: u64 = 5;
     let mut found: u64 = 0;
     let mut n = from;
     while n < end {
@@ -133,7 +147,9 @@ pub fn count_in(
             n += 1;
         } else {
             at = entered(kind, n as u64, at);
-            live = depth_after(store, tree, at, low, kind, residues, atoms);
+            let next = turn(store, tree, at, low, kind, sure, residues, atoms);
+            live = next.live;
+            sure = next.sure;
             if live == 5 {
                 found += 1;
                 n += 1;
@@ -176,6 +192,7 @@ pub fn find_in(
 {
     let mut at = first;
     let mut live = depth;
+    let mut sure: u64 = 5;
     let mut found: u64 = 0;
     let mut n = from;
     while n < end {
@@ -184,7 +201,9 @@ pub fn find_in(
             n += 1;
         } else {
             at = entered(kind, n as u64, at);
-            live = depth_after(store, tree, at, low, kind, residues, atoms);
+            let next = turn(store, tree, at, low, kind, sure, residues, atoms);
+            live = next.live;
+            sure = next.sure;
             if live == 5 {
                 put(out, found, at);
                 found += 1;

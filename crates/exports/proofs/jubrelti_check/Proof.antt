@@ -1,6 +1,6 @@
 -- `exports::jubrelti_check` meets its contract: the check's answer, as a number. Assumes nothing.
 use borrow.Author.Needs.{needs}
-use mathlib.Core.Path.{_≡_, refl, sym, ap, _∙_}
+use mathlib.Core.Path.{_≡_, refl, ap, _∙_}
 use native.Mathlib.Omega.{arith}
 use Prim.Native.Nat.{ℕ}
 use Rattle.machine.specs.Answer.{Result, ok, refused, refusalNumber}

@@ -7,7 +7,7 @@ use denote.Ref.{now}
 use lib.ListN.{length}
 use Rattle.machine.specs.declared.Tri.{Tri}
 use Rattle.machine.specs.declared.Term.{Term}
-use Rattle.search.specs.Levels.{valueAt}
+use Rattle.search.specs.Levels.{valueAt, numbersIn}
 use Rattle.search.proofs.Postfix.{taken, shorter, three, single, constant, under-not, negated, under-right, right-start, under-left, joined}
 use Prim.Native.Nat.{ℕ, _-_, _<_}
 use borrow.Fn.Kinds.{In}
@@ -15,27 +15,29 @@ use borrow.Fn.PlainCycle.{Measures, is, falls, and}
 use Rattle.search.proofs.evaluate.Reads as evaluate
 use Rattle.search.proofs.evaluate.Kinds as evaluate-kinds
 use Rattle.search.proofs.+evaluate.Lts-evaluate as evaluate-lts
+use Rattle.search.proofs.anew.Reads as anew-reads
 use Rattle.search.proofs.connection.Reads as connection-reads
 use Rattle.search.proofs.decided.Reads as decided-reads
-use Rattle.search.proofs.node_of.Reads as node-of-reads
 use Rattle.search.proofs.negation.Reads as negation-reads
+use Rattle.search.proofs.node_of.Reads as node-of-reads
+use Rattle.search.proofs.numbers.Reads as numbers-reads
 use Rattle.search.proofs.term_value.Reads as term-value-reads
 use Rattle.search.proofs.+evaluate.{statement}
 use Rattle.search.proofs.+evaluate.Tie.{close}
 
-abbrev μ-evaluate : Measures 4 evaluate-kinds.ps ℕ
+abbrev μ-evaluate : Measures 5 evaluate-kinds.ps ℕ
 μ-evaluate κs a = length (now (a .0))
 
-abbrev evaluate-at : ℕ → In 4 evaluate-kinds.ps
-evaluate-at t = and 4 evaluate-kinds.ps (is 4 evaluate-kinds.ps μ-evaluate t) evaluate.Pre
+abbrev evaluate-at : ℕ → In 5 evaluate-kinds.ps
+evaluate-at t = and 5 evaluate-kinds.ps (is 5 evaluate-kinds.ps μ-evaluate t) evaluate.Pre
 
-abbrev evaluate-below : ℕ → In 4 evaluate-kinds.ps
+abbrev evaluate-below : ℕ → In 5 evaluate-kinds.ps
 evaluate-below t =
-    and 4 evaluate-kinds.ps (falls 4 evaluate-kinds.ps _<_ μ-evaluate t) evaluate.Pre
+    and 5 evaluate-kinds.ps (falls 5 evaluate-kinds.ps _<_ μ-evaluate t) evaluate.Pre
 
 -- what the calls ask and give, the calls of itself at a smaller measure
 abbrev claims : ℕ → evaluate-lts.Claims
-claims t = (node-of-reads.Asked, node-of-reads.Learnt, term-value-reads.Asked, term-value-reads.Learnt, decided-reads.Asked, decided-reads.Learnt, evaluate-below t, evaluate.Post, negation-reads.Asked, negation-reads.Learnt, connection-reads.Asked, connection-reads.Learnt)
+claims t = (node-of-reads.Asked, node-of-reads.Learnt, numbers-reads.Asked, numbers-reads.Learnt, term-value-reads.Asked, term-value-reads.Learnt, decided-reads.Asked, decided-reads.Learnt, anew-reads.Asked, anew-reads.Learnt, evaluate-below t, evaluate.Post, negation-reads.Asked, negation-reads.Learnt, connection-reads.Asked, connection-reads.Learnt)
 
 evaluate-sub-i : (t : ℕ) → evaluate-lts.Need-sub-i (claims t) (evaluate-at t) evaluate.Post
 evaluate-sub-i t c =
@@ -82,8 +84,11 @@ evaluate-node-of-requires t c κs = search needs
 evaluate-enum-known-n : (t : ℕ) → evaluate-lts.Need-enum-known-n (claims t) (evaluate-at t) evaluate.Post
 evaluate-enum-known-n t c = search needs
 
+evaluate-numbers-requires : (t : ℕ) → evaluate-lts.Need-numbers-requires (claims t) (evaluate-at t) evaluate.Post
+evaluate-numbers-requires t c κs = search needs
+
 evaluate-term-value-requires : (t : ℕ) → evaluate-lts.Need-term-value-requires (claims t) (evaluate-at t) evaluate.Post
-evaluate-term-value-requires t c κs = search needs
+evaluate-term-value-requires t c κs = rw (c .numbers .ensures) (c .before .before .before .before .before .before .before .before .before .before .before .before .pre .1 .1)
 
 evaluate-enum-known-n-2 : (t : ℕ) → evaluate-lts.Need-enum-known-n-2 (claims t) (evaluate-at t) evaluate.Post
 evaluate-enum-known-n-2 t c = search needs
@@ -99,15 +104,18 @@ evaluate-slice-aggregate-evaluate t c =
     let l = three _ (c .before .before .before .before .before .before .before .before .before .before .before .args .tree .now) (c .before .before .before .before .before .before .before .before .before .before .before .pre .1 .0) in
     sym (taken (c .before .before .before .before .before .before .before .before .before .before .before .args .tree .now) _ (omega arith))
 
+evaluate-anew-requires : (t : ℕ) → evaluate-lts.Need-anew-requires (claims t) (evaluate-at t) evaluate.Post
+evaluate-anew-requires t c κs = search needs
+
 evaluate-evaluate-requires : (t : ℕ) → evaluate-lts.Need-evaluate-requires (claims t) (evaluate-at t) evaluate.Post
 evaluate-evaluate-requires t c κs =
-    let s = c .before .before .before .before .before .before .before .before .before .before .before in
+    let s = c .before .before .before .before .before .before .before .before .before .before .before .before in
     let a = s .args in
-    let v : Term → Tri = valueAt (a .words .now) (a .at) (a .low) (a .high) (a .residues .now) (a .atoms .now) in
+    let v : Term → Tri = valueAt (a .words .now) (numbersIn (a .place .now)) (a .low) (a .high) (a .residues .now) (a .atoms .now) in
     let o = s .pre .1 .0 in
     let l = three v (a .tree .now) o in
     let m = s .pre .0 in
-    (shorter (a .tree .now) (length (a .tree .now) - 3) m (omega arith), (under-not v (a .tree .now) o _ refl (sym (c .before .before .before .node-of .ensures) ∙ c .before .enum-told .given .1), s .pre .1 .1))
+    rw (c .anew .ensures) (shorter (a .tree .now) (length (a .tree .now) - 3) m (omega arith), (under-not v (a .tree .now) o _ refl (sym (c .before .before .before .before .node-of .ensures) ∙ c .before .before .enum-told .given .1), s .pre .1 .1))
 
 evaluate-negation-requires : (t : ℕ) → evaluate-lts.Need-negation-requires (claims t) (evaluate-at t) evaluate.Post
 evaluate-negation-requires t c κs = search needs
@@ -120,75 +128,88 @@ evaluate-slice-aggregate-evaluate-2 t c =
     let l = three _ (c .before .before .before .before .before .before .before .before .before .before .before .before .args .tree .now) (c .before .before .before .before .before .before .before .before .before .before .before .before .pre .1 .0) in
     sym (taken (c .before .before .before .before .before .before .before .before .before .before .before .before .args .tree .now) _ (omega arith))
 
+evaluate-anew-requires-2 : (t : ℕ) → evaluate-lts.Need-anew-requires-2 (claims t) (evaluate-at t) evaluate.Post
+evaluate-anew-requires-2 t c κs = search needs
+
 evaluate-evaluate-requires-2 : (t : ℕ) → evaluate-lts.Need-evaluate-requires-2 (claims t) (evaluate-at t) evaluate.Post
 evaluate-evaluate-requires-2 t c κs =
-    let s = c .before .before .before .before .before .before .before .before .before .before .before .before in
+    let s = c .before .before .before .before .before .before .before .before .before .before .before .before .before in
     let a = s .args in
-    let v : Term → Tri = valueAt (a .words .now) (a .at) (a .low) (a .high) (a .residues .now) (a .atoms .now) in
+    let v : Term → Tri = valueAt (a .words .now) (numbersIn (a .place .now)) (a .low) (a .high) (a .residues .now) (a .atoms .now) in
     let o = s .pre .1 .0 in
     let l = three v (a .tree .now) o in
     let m = s .pre .0 in
-    (shorter (a .tree .now) (length (a .tree .now) - 3) m (omega arith), (under-right v (a .tree .now) o _ refl (sym (c .before .before .before .before .node-of .ensures) ∙ c .before .before .n3 .given .1), s .pre .1 .1))
+    rw (c .anew2 .ensures) (shorter (a .tree .now) (length (a .tree .now) - 3) m (omega arith), (under-right v (a .tree .now) o _ refl (sym (c .before .before .before .before .before .node-of .ensures) ∙ c .before .before .before .n3 .given .1), s .pre .1 .1))
 
 evaluate-slice-aggregate-evaluate-3 : (t : ℕ) → evaluate-lts.Need-slice-aggregate-evaluate-3 (claims t) (evaluate-at t) evaluate.Post
 evaluate-slice-aggregate-evaluate-3 t c =
-    let s = c .before .before .before .before .before .before .before .before .before .before .before .before .before .before in
+    let s = c .before .before .before .before .before .before .before .before .before .before .before .before .before .before .before in
     let a = s .args in
-    let v : Term → Tri = valueAt (a .words .now) (a .at) (a .low) (a .high) (a .residues .now) (a .atoms .now) in
+    let v : Term → Tri = valueAt (a .words .now) (numbersIn (a .place .now)) (a .low) (a .high) (a .residues .now) (a .atoms .now) in
     let o = s .pre .1 .0 in
     let l = three v (a .tree .now) o in
-    let m = right-start v (a .tree .now) o _ refl (sym (c .before .before .before .before .before .before .node-of .ensures) ∙ c .before .before .before .before .n3 .given .1) (c .before .evaluate2 .result) (c .before .evaluate2 .ensures) in
+    let r = c .before .evaluate2 in
+    let f = rw (c .before .before .anew2 .ensures) at (r .ensures) in
+    let m = right-start v (a .tree .now) o _ refl (sym (c .before .before .before .before .before .before .before .node-of .ensures) ∙ c .before .before .before .before .before .n3 .given .1) (r .result) f in
     sym (taken (a .tree .now) _ (omega arith))
+
+evaluate-anew-requires-3 : (t : ℕ) → evaluate-lts.Need-anew-requires-3 (claims t) (evaluate-at t) evaluate.Post
+evaluate-anew-requires-3 t c κs = search needs
 
 evaluate-evaluate-requires-3 : (t : ℕ) → evaluate-lts.Need-evaluate-requires-3 (claims t) (evaluate-at t) evaluate.Post
 evaluate-evaluate-requires-3 t c κs =
-    let s = c .before .before .before .before .before .before .before .before .before .before .before .before .before .before in
+    let s = c .before .before .before .before .before .before .before .before .before .before .before .before .before .before .before .before in
     let a = s .args in
-    let v : Term → Tri = valueAt (a .words .now) (a .at) (a .low) (a .high) (a .residues .now) (a .atoms .now) in
+    let v : Term → Tri = valueAt (a .words .now) (numbersIn (a .place .now)) (a .low) (a .high) (a .residues .now) (a .atoms .now) in
     let o = s .pre .1 .0 in
     let l = three v (a .tree .now) o in
     let m = s .pre .0 in
-    let e = (sym (c .before .before .before .before .before .before .node-of .ensures) ∙ c .before .before .before .before .n3 .given .1) in
-    (shorter (a .tree .now) (c .before .evaluate2 .result .start) m (omega (arith, right-start v (a .tree .now) o _ refl e (c .before .evaluate2 .result) (c .before .evaluate2 .ensures))), (under-left v (a .tree .now) o _ refl e (c .before .evaluate2 .result) (c .before .evaluate2 .ensures), s .pre .1 .1))
+    let e = (sym (c .before .before .before .before .before .before .before .before .node-of .ensures) ∙ c .before .before .before .before .before .before .n3 .given .1) in
+    let r = c .before .before .evaluate2 in
+    let f = rw (c .before .before .before .anew2 .ensures) at (r .ensures) in
+    rw (c .anew3 .ensures) (shorter (a .tree .now) (r .result .start) m (omega (arith, right-start v (a .tree .now) o _ refl e (r .result) f)), (under-left v (a .tree .now) o _ refl e (r .result) f, s .pre .1 .1))
 
 evaluate-connection-requires : (t : ℕ) → evaluate-lts.Need-connection-requires (claims t) (evaluate-at t) evaluate.Post
 evaluate-connection-requires t c κs = search needs
 
 evaluate-returns : (t : ℕ) → evaluate-lts.Need-returns (claims t) (evaluate-at t) evaluate.Post
 evaluate-returns t c =
-    let s = c .before .before .before .before .before .before .before .before .before .before .before .before in
+    let s = c .before .before .before .before .before .before .before .before .before .before .before .before .before in
     let a = s .args in
-    let v : Term → Tri = valueAt (a .words .now) (a .at) (a .low) (a .high) (a .residues .now) (a .atoms .now) in
+    let v : Term → Tri = valueAt (a .words .now) (numbersIn (a .place .now)) (a .low) (a .high) (a .residues .now) (a .atoms .now) in
     let o = s .pre .1 .0 in
     let l = three v (a .tree .now) o in
-    single v (a .tree .now) o _ refl (sym (c .before .before .before .before .node-of .ensures) ∙ c .before .before .n .given .1) (c .term-value .ensures)
+    single v (a .tree .now) o _ refl (sym (c .before .before .before .before .before .node-of .ensures) ∙ c .before .before .before .n .given .1) (rw (c .before .numbers .ensures) at (c .term-value .ensures))
 
 evaluate-returns-2 : (t : ℕ) → evaluate-lts.Need-returns-2 (claims t) (evaluate-at t) evaluate.Post
 evaluate-returns-2 t c =
     let s = c .before .before .before .before .before .before .before .before .before .before .before .before in
     let a = s .args in
-    let v : Term → Tri = valueAt (a .words .now) (a .at) (a .low) (a .high) (a .residues .now) (a .atoms .now) in
+    let v : Term → Tri = valueAt (a .words .now) (numbersIn (a .place .now)) (a .low) (a .high) (a .residues .now) (a .atoms .now) in
     let o = s .pre .1 .0 in
     let l = three v (a .tree .now) o in
     constant v (a .tree .now) o _ refl (sym (c .before .before .before .before .node-of .ensures) ∙ c .before .before .n2 .given .1) (c .decided .ensures)
 
 evaluate-returns-3 : (t : ℕ) → evaluate-lts.Need-returns-3 (claims t) (evaluate-at t) evaluate.Post
 evaluate-returns-3 t c =
-    let s = c .before .before .before .before .before .before .before .before .before .before .before .before .before in
+    let s = c .before .before .before .before .before .before .before .before .before .before .before .before .before .before in
     let a = s .args in
-    let v : Term → Tri = valueAt (a .words .now) (a .at) (a .low) (a .high) (a .residues .now) (a .atoms .now) in
+    let v : Term → Tri = valueAt (a .words .now) (numbersIn (a .place .now)) (a .low) (a .high) (a .residues .now) (a .atoms .now) in
     let o = s .pre .1 .0 in
     let l = three v (a .tree .now) o in
-    rw (c .negation .ensures) (negated v (a .tree .now) o _ refl (c .before .evaluate .result) (sym (c .before .before .before .before .before .node-of .ensures) ∙ c .before .before .before .enum-told .given .1) (c .before .evaluate .ensures) refl)
+    rw (c .negation .ensures) (negated v (a .tree .now) o _ refl (c .before .evaluate .result) (sym (c .before .before .before .before .before .before .node-of .ensures) ∙ c .before .before .before .before .enum-told .given .1) (rw (c .before .before .anew .ensures) at (c .before .evaluate .ensures)) refl)
 
 evaluate-returns-4 : (t : ℕ) → evaluate-lts.Need-returns-4 (claims t) (evaluate-at t) evaluate.Post
 evaluate-returns-4 t c =
-    let s = c .before .before .before .before .before .before .before .before .before .before .before .before .before .before .before .before in
+    let s = c .before .before .before .before .before .before .before .before .before .before .before .before .before .before .before .before .before .before in
     let a = s .args in
-    let v : Term → Tri = valueAt (a .words .now) (a .at) (a .low) (a .high) (a .residues .now) (a .atoms .now) in
+    let v : Term → Tri = valueAt (a .words .now) (numbersIn (a .place .now)) (a .low) (a .high) (a .residues .now) (a .atoms .now) in
     let o = s .pre .1 .0 in
     let l = three v (a .tree .now) o in
-    rw (c .connection .ensures) (joined v (a .tree .now) o _ refl (sym (c .before .before .before .before .before .before .before .before .node-of .ensures) ∙ c .before .before .before .before .before .before .n3 .given .1) (c .before .before .before .evaluate2 .result) (c .before .before .before .evaluate2 .ensures) (c .before .evaluate3 .result) (c .before .evaluate3 .ensures) refl)
+    let r = c .before .before .before .before .evaluate2 in
+    let f = rw (c .before .before .before .before .before .anew2 .ensures) at (r .ensures) in
+    let g = rw (c .before .before .anew3 .ensures) at (c .before .evaluate3 .ensures) in
+    rw (c .connection .ensures) (joined v (a .tree .now) o _ refl (sym (c .before .before .before .before .before .before .before .before .before .before .node-of .ensures) ∙ c .before .before .before .before .before .before .before .before .n3 .given .1) (r .result) f (c .before .evaluate3 .result) g refl)
 
 pub +evaluate-spec : {M : Type 1} → statement M
 +evaluate-spec = close μ-evaluate λ t. evaluate-lts.spec (claims t)
@@ -205,17 +226,21 @@ pub +evaluate-spec : {M : Type 1} → statement M
     (evaluate-shared-slice-read-node-of-3 t)
     (evaluate-node-of-requires t)
     (evaluate-enum-known-n t)
+    (evaluate-numbers-requires t)
     (evaluate-term-value-requires t)
     (evaluate-enum-known-n-2 t)
     (evaluate-decided-requires t)
     (evaluate-enum-told t)
     (evaluate-slice-aggregate-evaluate t)
+    (evaluate-anew-requires t)
     (evaluate-evaluate-requires t)
     (evaluate-negation-requires t)
     (evaluate-enum-known-n-3 t)
     (evaluate-slice-aggregate-evaluate-2 t)
+    (evaluate-anew-requires-2 t)
     (evaluate-evaluate-requires-2 t)
     (evaluate-slice-aggregate-evaluate-3 t)
+    (evaluate-anew-requires-3 t)
     (evaluate-evaluate-requires-3 t)
     (evaluate-connection-requires t)
     (evaluate-returns t)

@@ -1,7 +1,7 @@
--- `search::term_value` meets its contract: a term's arm is the level that it asks for, which alone decides it. Assumes nothing.
+-- `search::term_value` meets its contract: a term's arm is the level that it asks for, or the two lower ones, which decide it. Assumes nothing.
 use borrow.Author.Needs.{needs}
 use Rattle.machine.specs.Query.{Names}
-use Rattle.search.proofs.Records.{model-arm, chain-arm, residue-arm, conformer-arm, atom-arm, side-arm-false, side-arm-true, side-arm-left}
+use Rattle.search.proofs.Records.{model-arm, chain-arm, residue-arm, lower-false, lower-arm}
 use Rattle.search.proofs.term_value.Statement.{statement}
 use Rattle.search.proofs.term_value.Tie as tie
 
@@ -26,35 +26,20 @@ residue-value-requires c κs = search needs
 between-requires-4 : tie.Need-between-requires-4
 between-requires-4 c κs = search needs
 
-conformer-value-requires : tie.Need-conformer-value-requires
-conformer-value-requires c κs = search needs
-
-between-requires-5 : tie.Need-between-requires-5
-between-requires-5 c κs = search needs
-
-conformer-value-requires-2 : tie.Need-conformer-value-requires-2
-conformer-value-requires-2 c κs = search needs
+atom-value-requires : tie.Need-atom-value-requires
+atom-value-requires c κs = search needs
 
 enum-told : tie.Need-enum-told
 enum-told c = search needs
 
-between-requires-6 : tie.Need-between-requires-6
-between-requires-6 c κs = search needs
+between-requires-5 : tie.Need-between-requires-5
+between-requires-5 c κs = search needs
 
-atom-value-requires : tie.Need-atom-value-requires
-atom-value-requires c κs = search needs
+conformer-value-requires : tie.Need-conformer-value-requires
+conformer-value-requires c κs = search needs
 
-enum-told-2 : tie.Need-enum-told-2
-enum-told-2 c = search needs
-
-enum-told-3 : tie.Need-enum-told-3
-enum-told-3 c = search needs
-
-between-requires-7 : tie.Need-between-requires-7
-between-requires-7 c κs = search needs
-
-atom-value-requires-2 : tie.Need-atom-value-requires-2
-atom-value-requires-2 c κs = search needs
+narrowed-requires : tie.Need-narrowed-requires
+narrowed-requires c κs = search needs
 
 returns : tie.Need-returns
 returns c =
@@ -76,33 +61,15 @@ returns-3 c =
 
 returns-4 : tie.Need-returns-4
 returns-4 c =
-    let a = c .before .before .before .before .before .before .args in
+    let a = c .before .before .before .before .before .before .before .before .args in
     let names : Names = record { residues = a .residues .now; atoms = a .atoms .now } in
-    conformer-arm names (a .words .now) (a .at) (a .low) (a .high) (a .t) (c .conformer-value .ensures (a .atoms .now)) (c .before .between4 .ensures) (c .before .before .match .keys4)
+    lower-false names (a .words .now) (a .at) (a .low) (a .high) (a .t) (c .before .before .before .before .match .keys4) (c .before .before .atom-value .ensures (a .residues .now)) (c .before .before .before .between4 .ensures) (c .enum-told .given .1)
 
 returns-5 : tie.Need-returns-5
 returns-5 c =
     let a = c .before .before .before .before .before .before .before .before .before .before .args in
     let names : Names = record { residues = a .residues .now; atoms = a .atoms .now } in
-    side-arm-left names (a .words .now) (a .at) (a .low) (a .high) (a .t) (c .before .before .before .before .before .before .match .keys5) (c .before .before .before .before .conformer-value2 .ensures (a .atoms .now)) (c .before .before .before .before .before .between5 .ensures) (c .before .before .enum-told .given .1) (c .atom-value .ensures (a .residues .now)) (c .before .between6 .ensures)
-
-returns-6 : tie.Need-returns-6
-returns-6 c =
-    let a = c .before .before .before .before .before .before .before .before .args in
-    let names : Names = record { residues = a .residues .now; atoms = a .atoms .now } in
-    side-arm-false names (a .words .now) (a .at) (a .low) (a .high) (a .t) (c .before .before .before .before .match .keys5) (c .before .before .conformer-value2 .ensures (a .atoms .now)) (c .before .before .before .between5 .ensures) (c .enum-told2 .given .1)
-
-returns-7 : tie.Need-returns-7
-returns-7 c =
-    let a = c .before .before .before .before .before .before .before .before .args in
-    let names : Names = record { residues = a .residues .now; atoms = a .atoms .now } in
-    side-arm-true names (a .words .now) (a .at) (a .low) (a .high) (a .t) (c .before .before .before .before .match .keys5) (c .before .before .conformer-value2 .ensures (a .atoms .now)) (c .before .before .before .between5 .ensures) (c .enum-told3 .given .1)
-
-returns-8 : tie.Need-returns-8
-returns-8 c =
-    let a = c .before .before .before .before .before .before .args in
-    let names : Names = record { residues = a .residues .now; atoms = a .atoms .now } in
-    atom-arm names (a .words .now) (a .at) (a .low) (a .high) (a .t) (c .atom-value2 .ensures (a .residues .now)) (c .before .between7 .ensures) (c .before .before .match .keys6)
+    lower-arm names (a .words .now) (a .at) (a .low) (a .high) (a .t) (c .before .before .before .before .before .before .match .keys4) (c .before .before .before .before .atom-value .ensures (a .residues .now)) (c .before .before .before .before .before .between4 .ensures) (c .narrowed .ensures) (c .before .conformer-value .ensures (a .atoms .now)) (c .before .before .between5 .ensures)
 
 pub term-value-spec : {M : Type 1} → statement M
 term-value-spec =
@@ -115,21 +82,13 @@ term-value-spec =
     between-requires-3
     residue-value-requires
     between-requires-4
-    conformer-value-requires
-    between-requires-5
-    conformer-value-requires-2
-    enum-told
-    between-requires-6
     atom-value-requires
-    enum-told-2
-    enum-told-3
-    between-requires-7
-    atom-value-requires-2
+    enum-told
+    between-requires-5
+    conformer-value-requires
+    narrowed-requires
     returns
     returns-2
     returns-3
     returns-4
-    returns-5
-    returns-6
-    returns-7
-    returns-8)
+    returns-5)

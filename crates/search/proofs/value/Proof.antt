@@ -8,14 +8,14 @@ use Rattle.search.proofs.value.Tie as tie
 
 evaluate-requires : tie.Need-evaluate-requires
 evaluate-requires c κs =
-    let s = c .before .before .before .before in
+    let s = c .before .before .before .before .before in
     let a = s .args in
     let v : Term → Tri = valueAt (a .words .now) (a .at) (a .low) (a .high) (a .residues .now) (a .atoms .now) in
     (tree-operand v (a .tree .now) (s .pre .0), s .pre .1)
 
 returns : tie.Need-returns
 returns c =
-    let s = c .before .before .before .before .before in
+    let s = c .before .before .before .before .before .before in
     let a = s .args in
     let v : Term → Tri = valueAt (a .words .now) (a .at) (a .low) (a .high) (a .residues .now) (a .atoms .now) in
     tree-value v (a .tree .now) (s .pre .0) (c .evaluate .result) (c .evaluate .ensures)

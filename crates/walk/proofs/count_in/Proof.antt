@@ -3,15 +3,15 @@ use borrow.Author.Needs.{needs}
 use Prim.Native.Nat.{_-_}
 use native.Mathlib.Omega.{arith}
 use Rattle.walk.specs.Walk.{foundIn}
-use Rattle.walk.proofs.Laws.{Walking, walk-start, walk-end, least, walk-deep, walk-inside, walk-hit, walk-miss}
+use Rattle.walk.proofs.Laws.{Walking, walk-start, walk-end, least, walk-deep, walk-inside, walk-sure, walk-hit, walk-miss}
 use Rattle.walk.proofs.count_in.Statement.{statement}
 use Rattle.walk.proofs.count_in.Tie as tie
 
 abbrev Inv-loop : tie.InvT-loop
-Inv-loop store from end tree low depth residues atoms at₀ live₀ found₀ n₀ at live found n = Walking store tree residues atoms low end (foundIn store from end tree low depth at₀ residues atoms) n live at found
+Inv-loop store from end tree low depth residues atoms at₀ live₀ sure₀ found₀ n₀ at live sure found n = Walking store tree residues atoms low end (foundIn store from end tree low depth at₀ residues atoms) n live sure at found
 
 abbrev μ-loop : tie.MeasureT-loop
-μ-loop store from end tree low depth residues atoms at₀ live₀ found₀ n₀ at live found n = end - n
+μ-loop store from end tree low depth residues atoms at₀ live₀ sure₀ found₀ n₀ at live sure found n = end - n
 
 loop-holds : tie.Need-loop-holds Inv-loop μ-loop
 loop-holds c = walk-start _ _ _ _ _ _ _ _ _ (c .before .before .before .before .pre)
@@ -35,19 +35,20 @@ loop-less : tie.Need-loop-less Inv-loop μ-loop
 loop-less c = omega arith
 
 loop-again : tie.Need-loop-again Inv-loop μ-loop
-loop-again c = walk-deep _ _ _ _ _ _ _ _ _ _ _ (c .before .before .before .loop .inv) (c .before .before .loop-test .taken) (c .if1 .taken)
+loop-again c = walk-deep _ _ _ _ _ _ _ _ _ _ _ _ (c .before .before .before .loop .inv) (c .before .before .loop-test .taken) (c .if1 .taken)
 
 entered-requires : tie.Need-entered-requires Inv-loop μ-loop
 entered-requires c κs = search needs
 
-depth-after-requires : tie.Need-depth-after-requires Inv-loop μ-loop
-depth-after-requires c κs =
+turn-requires : tie.Need-turn-requires Inv-loop μ-loop
+turn-requires c κs =
     let l = c .before .before .before in
     let i = l .before .loop .inv in
     let more = l .loop-test .taken in (
       l .before .before .before .before .before .before .pre .tree,
-      walk-inside _ _ _ _ _ _ _ _ _ _ _ i more _ (c .entered .ensures),
-      least _ _ _ _ _ _ _ _ _ _ _ i more,
+      walk-inside _ _ _ _ _ _ _ _ _ _ _ _ i more _ (c .entered .ensures),
+      least _ _ _ _ _ _ _ _ _ _ _ _ i more,
+      walk-sure _ _ _ _ _ _ _ _ _ _ _ _ i more _ (c .entered .ensures),
     )
 
 add-found : tie.Need-add-found Inv-loop μ-loop
@@ -63,7 +64,7 @@ loop-again-2 : tie.Need-loop-again-2 Inv-loop μ-loop
 loop-again-2 c =
     let e = c .before .before in
     let l = e .before .before .before in
-    walk-hit _ _ _ _ _ _ _ _ _ _ _ (l .before .loop .inv) (l .loop-test .taken) _ (e .entered .ensures) (e .before .if1 .left) _ (c .before .depth-after .ensures) (c .if2 .taken)
+    walk-hit _ _ _ _ _ _ _ _ _ _ _ _ (l .before .loop .inv) (l .loop-test .taken) _ (e .entered .ensures) (e .before .if1 .left) _ (c .before .turn .ensures) (c .if2 .taken)
 
 add-n-3 : tie.Need-add-n-3 Inv-loop μ-loop
 add-n-3 c = omega arith
@@ -75,10 +76,10 @@ loop-again-3 : tie.Need-loop-again-3 Inv-loop μ-loop
 loop-again-3 c =
     let e = c .before .before in
     let l = e .before .before .before in
-    walk-miss _ _ _ _ _ _ _ _ _ _ _ (l .before .loop .inv) (l .loop-test .taken) _ (e .entered .ensures) (e .before .if1 .left) _ (c .before .depth-after .ensures) (c .if2 .left)
+    walk-miss _ _ _ _ _ _ _ _ _ _ _ _ (l .before .loop .inv) (l .loop-test .taken) _ (e .entered .ensures) (e .before .if1 .left) _ (c .before .turn .ensures) (c .if2 .left)
 
 returns : tie.Need-returns Inv-loop μ-loop
-returns c = walk-end _ _ _ _ _ _ _ _ _ _ _ (c .before .loop .inv) (c .loop-test .left)
+returns c = walk-end _ _ _ _ _ _ _ _ _ _ _ _ (c .before .loop .inv) (c .loop-test .left)
 
 pub count-in-spec : {M : Type 1} → statement M
 count-in-spec =
@@ -95,7 +96,7 @@ count-in-spec =
     loop-less
     loop-again
     entered-requires
-    depth-after-requires
+    turn-requires
     add-found
     add-n-2
     loop-less-2

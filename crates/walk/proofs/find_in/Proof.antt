@@ -3,16 +3,16 @@ use borrow.Author.Needs.{needs}
 use Prim.Native.Nat.{_-_}
 use native.Mathlib.Omega.{arith}
 use Rattle.walk.specs.Walk.{foundIn}
-use Rattle.walk.proofs.Laws.{least, walk-inside, Writing, write-start, write-end, write-deep, write-miss, write-room, write-hit}
+use Rattle.walk.proofs.Laws.{least, walk-inside, walk-sure, Writing, write-start, write-end, write-deep, write-miss, write-room, write-hit}
 use Rattle.walk.proofs.find_in.Statement.{statement}
 use Rattle.walk.proofs.find_in.Tie as tie
 
 abbrev Inv-loop : tie.InvT-loop
-Inv-loop store from end tree low depth residues atoms out₀ at₀ live₀ found₀ n₀ out at live found n =
-    Writing store tree residues atoms low end (foundIn store from end tree low depth at₀ residues atoms) out₀ n live at found out
+Inv-loop store from end tree low depth residues atoms out₀ at₀ live₀ sure₀ found₀ n₀ out at live sure found n =
+    Writing store tree residues atoms low end (foundIn store from end tree low depth at₀ residues atoms) out₀ n live sure at found out
 
 abbrev μ-loop : tie.MeasureT-loop
-μ-loop store from end tree low depth residues atoms out₀ at₀ live₀ found₀ n₀ out at live found n = end - n
+μ-loop store from end tree low depth residues atoms out₀ at₀ live₀ sure₀ found₀ n₀ out at live sure found n = end - n
 
 loop-holds : tie.Need-loop-holds Inv-loop μ-loop
 loop-holds c = write-start _ _ _ _ _ _ _ _ _ _ (c .before .before .before .before .before .pre .0)
@@ -36,19 +36,20 @@ loop-less : tie.Need-loop-less Inv-loop μ-loop
 loop-less c = omega arith
 
 loop-again : tie.Need-loop-again Inv-loop μ-loop
-loop-again c = write-deep _ _ _ _ _ _ _ _ _ _ _ _ _ (c .before .before .before .loop .inv) (c .before .before .loop-test .taken) (c .if1 .taken)
+loop-again c = write-deep _ _ _ _ _ _ _ _ _ _ _ _ _ _ (c .before .before .before .loop .inv) (c .before .before .loop-test .taken) (c .if1 .taken)
 
 entered-requires : tie.Need-entered-requires Inv-loop μ-loop
 entered-requires c κs = search needs
 
-depth-after-requires : tie.Need-depth-after-requires Inv-loop μ-loop
-depth-after-requires c κs =
+turn-requires : tie.Need-turn-requires Inv-loop μ-loop
+turn-requires c κs =
     let l = c .before .before .before in
     let i = l .before .loop .inv .walking in
     let more = l .loop-test .taken in (
       l .before .before .before .before .before .before .before .pre .0 .tree,
-      walk-inside _ _ _ _ _ _ _ _ _ _ _ i more _ (c .entered .ensures),
-      least _ _ _ _ _ _ _ _ _ _ _ i more,
+      walk-inside _ _ _ _ _ _ _ _ _ _ _ _ i more _ (c .entered .ensures),
+      least _ _ _ _ _ _ _ _ _ _ _ _ i more,
+      walk-sure _ _ _ _ _ _ _ _ _ _ _ _ i more _ (c .entered .ensures),
     )
 
 put-requires : tie.Need-put-requires Inv-loop μ-loop
@@ -56,7 +57,7 @@ put-requires c κs =
     let p = c .before in
     let e = p .before .before in
     let l = e .before .before .before in
-    write-room _ _ _ _ _ _ _ _ _ _ _ _ _ (l .before .loop .inv) (l .loop-test .taken) _ (e .entered .ensures) (e .before .if1 .left) _ (p .before .depth-after .ensures) (l .before .before .before .before .before .before .before .pre .1) (p .if2 .taken)
+    write-room _ _ _ _ _ _ _ _ _ _ _ _ _ _ (l .before .loop .inv) (l .loop-test .taken) _ (e .entered .ensures) (e .before .if1 .left) _ (p .before .turn .ensures) (l .before .before .before .before .before .before .before .pre .1) (p .if2 .taken)
 
 add-found : tie.Need-add-found Inv-loop μ-loop
 add-found c = omega arith
@@ -72,7 +73,7 @@ loop-again-2 c =
     let p = c .before .before .before .before in
     let e = p .before .before in
     let l = e .before .before .before in
-    write-hit _ _ _ _ _ _ _ _ _ _ _ _ _ (l .before .loop .inv) (l .loop-test .taken) _ (e .entered .ensures) (e .before .if1 .left) _ (p .before .depth-after .ensures) (l .before .before .before .before .before .before .before .pre .1) (p .if2 .taken) _ (c .before .before .put .ensures)
+    write-hit _ _ _ _ _ _ _ _ _ _ _ _ _ _ (l .before .loop .inv) (l .loop-test .taken) _ (e .entered .ensures) (e .before .if1 .left) _ (p .before .turn .ensures) (l .before .before .before .before .before .before .before .pre .1) (p .if2 .taken) _ (c .before .before .put .ensures)
 
 add-n-3 : tie.Need-add-n-3 Inv-loop μ-loop
 add-n-3 c = omega arith
@@ -84,13 +85,13 @@ loop-again-3 : tie.Need-loop-again-3 Inv-loop μ-loop
 loop-again-3 c =
     let e = c .before .before in
     let l = e .before .before .before in
-    write-miss _ _ _ _ _ _ _ _ _ _ _ _ _ (l .before .loop .inv) (l .loop-test .taken) _ (e .entered .ensures) (e .before .if1 .left) _ (c .before .depth-after .ensures) (c .if2 .left)
+    write-miss _ _ _ _ _ _ _ _ _ _ _ _ _ _ (l .before .loop .inv) (l .loop-test .taken) _ (e .entered .ensures) (e .before .if1 .left) _ (c .before .turn .ensures) (c .if2 .left)
 
 same-length : tie.Need-same-length Inv-loop μ-loop
 same-length c = c .before .loop .inv .long
 
 returns : tie.Need-returns Inv-loop μ-loop
-returns c = write-end _ _ _ _ _ _ _ _ _ _ _ _ _ (c .before .loop .inv) (c .loop-test .left)
+returns c = write-end _ _ _ _ _ _ _ _ _ _ _ _ _ _ (c .before .loop .inv) (c .loop-test .left)
 
 pub find-in-spec : {M : Type 1} → statement M
 find-in-spec =
@@ -107,7 +108,7 @@ find-in-spec =
     loop-less
     loop-again
     entered-requires
-    depth-after-requires
+    turn-requires
     put-requires
     add-found
     add-n-2

@@ -1,0 +1,130 @@
+// Each answer as the numbers that document 01 gives it.
+ghost use mathlib.Core.Path.{_≡_};
+ghost use mathlib.Core.List.{[], _∷_};
+ghost use Rattle.machine.specs.Answer.{refusalNumber, openedNumbers, editedNumbers, foundNumbers, lookedUpNumbers};
+ghost use Rattle.answers.specs.Fields.{editFields, findFields, lookupFields};
+use machine::Edited;
+use machine::Found;
+use machine::LookedUp;
+use machine::Opened;
+use machine::Refusal;
+
+// "Refusal numbers by their cause"
+pub fn refusal_number(r: Refusal) -> u64
+    ensures { λ n. ⌜ n ≡ refusalNumber r ⌝ }
+{
+    match r {
+        Refusal::BadLength => 1,
+        Refusal::BrokenLayout => 2,
+        Refusal::TreeShape => 3,
+        Refusal::TreeNode => 4,
+        Refusal::NoPosition => 5,
+        Refusal::BadIdentifier => 6,
+        Refusal::BadValue => 7,
+        Refusal::NoCapacity => 8,
+        Refusal::JoinWithItself => 9,
+        Refusal::ShortOutput => 10,
+        Refusal::BadFile => 11,
+    }
+}
+
+// "A result is 0 with its fields, or one of these."
+#[repr(C)]
+pub struct Edit {
+    pub result: u64,
+    pub found: u64,
+    pub removed: u64,
+}
+
+#[repr(C)]
+pub struct Find {
+    pub result: u64,
+    pub hits: u64,
+}
+
+#[repr(C)]
+pub struct Lookup {
+    pub result: u64,
+    pub found: u64,
+    pub model: u64,
+    pub chain: u64,
+    pub residue: u64,
+    pub conformer: u64,
+    pub atom: u64,
+}
+
+pub fn of_opened(o: Opened) -> u64
+    ensures { λ r. ⌜ (r ∷ []) ≡ openedNumbers o ⌝ }
+{
+    match o {
+        Opened::Done => 0,
+        Opened::Refused(refusal) => refusal_number(refusal),
+    }
+}
+
+pub fn of_edited(e: Edited) -> Edit
+    ensures { λ r. ⌜ editFields r ≡ editedNumbers e ⌝ }
+{
+    match e {
+        Edited::Done(found, removed) => Edit {
+            result: 0,
+            found: found,
+            removed: removed,
+        },
+        Edited::Refused(refusal) => {
+            let n = refusal_number(refusal);
+            Edit {
+                result: n,
+                found: 0,
+                removed: 0,
+            }
+        }
+    }
+}
+
+pub fn of_found(f: Found) -> Find
+    ensures { λ r. ⌜ findFields r ≡ foundNumbers f ⌝ }
+{
+    match f {
+        Found::Hits(hits) => Find {
+            result: 0,
+            hits: hits,
+        },
+        Found::Refused(refusal) => {
+            let n = refusal_number(refusal);
+            Find { result: n, hits: 0 }
+        }
+    }
+}
+
+fn without_place(result: u64) -> Lookup
+    ensures { λ r. ⌜ r ≡ record { result = result; found = 0; model = 0; chain = 0; residue = 0; conformer = 0; atom = 0 } ⌝ }
+{
+    Lookup {
+        result: result,
+        found: 0,
+        model: 0,
+        chain: 0,
+        residue: 0,
+        conformer: 0,
+        atom: 0,
+    }
+}
+
+pub fn of_looked_up(l: LookedUp) -> Lookup
+    ensures { λ r. ⌜ lookupFields r ≡ lookedUpNumbers l ⌝ }
+{
+    match l {
+        LookedUp::At(at) => Lookup {
+            result: 0,
+            found: 1,
+            model: at.model,
+            chain: at.chain,
+            residue: at.residue,
+            conformer: at.conformer,
+            atom: at.atom,
+        },
+        LookedUp::NotFound => without_place(0),
+        LookedUp::Refused(refusal) => without_place(refusal_number(refusal)),
+    }
+}

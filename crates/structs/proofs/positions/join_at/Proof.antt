@@ -1,0 +1,42 @@
+-- `structs::positions::join_at` meets its contract. Assumes nothing.
+use borrow.Author.Needs.{needs}
+use Rattle.structs.proofs.Laws.{good, refused-by, stepped-by}
+use Rattle.structs.proofs.positions.join_at.Statement.{statement}
+use Rattle.structs.proofs.positions.join_at.Tie as tie
+
+check-requires : tie.Need-check-requires
+check-requires c κs = search needs
+
+enum-known-checked : tie.Need-enum-known-checked
+enum-known-checked c = search needs
+
+enum-known-checked-2 : tie.Need-enum-known-checked-2
+enum-known-checked-2 c = search needs
+
+join-at-requires : tie.Need-join-at-requires
+join-at-requires c κs = search (needs, good)
+
+same-length : tie.Need-same-length
+same-length c = search needs
+
+returns : tie.Need-returns
+returns c = search (needs, refused-by)
+
+same-length-2 : tie.Need-same-length-2
+same-length-2 c = search needs
+
+returns-2 : tie.Need-returns-2
+returns-2 c = search (needs, good, stepped-by)
+
+pub join-at-spec : {M : Type 1} → statement M
+join-at-spec =
+    tie.close
+    (tie.spec
+    check-requires
+    enum-known-checked
+    enum-known-checked-2
+    join-at-requires
+    same-length
+    returns
+    same-length-2
+    returns-2)

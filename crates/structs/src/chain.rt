@@ -1,0 +1,49 @@
+// After chain.rs.
+ghost use mathlib.Core.Path.{_≡_};
+ghost use Rattle.machine.specs.Answer.{editedNumbers};
+ghost use Rattle.machine.specs.Edit.{storeStep, RemoveResidue, RemoveResidueById, JoinChains};
+ghost use Rattle.additions.specs.Add.{optionalOf};
+use super::positions;
+use machine::Edited;
+use store::Checked;
+
+pub fn remove_residue(store: &mut [u64], model: u64, chain: u64, residue: u64) -> Edited
+    ensures { λ r. ⌜ (editedNumbers r, now (store .exit)) ≡ storeStep (now (store .entry)) (RemoveResidue model chain residue) ⌝ }
+{
+    let position = [model, chain, residue];
+    positions::remove_at(store, &position)
+}
+
+// The first with the serial number, given as its bits, and the code as given.
+pub fn remove_residue_by_id(
+    store: &mut [u64],
+    model: u64,
+    chain: u64,
+    serial: u64,
+    flag: u64,
+    code: &[u8],
+) -> Edited
+    ensures { λ r. ⌜ (editedNumbers r, now (store .exit)) ≡ storeStep (now (store .entry)) (RemoveResidueById model chain serial (optionalOf flag (now (code .entry)))) ⌝ }
+{
+    let checked = store::check(store);
+    match checked {
+        Checked::Refused(refusal) => Edited::Refused(refusal),
+        Checked::Good(_atoms) => {
+            removals::remove_residue_by_id(store, model, chain, serial, flag, code)
+        }
+    }
+}
+
+pub fn join(
+    store: &mut [u64],
+    model: u64,
+    chain: u64,
+    second_model: u64,
+    second_chain: u64,
+) -> Edited
+    ensures { λ r. ⌜ (editedNumbers r, now (store .exit)) ≡ storeStep (now (store .entry)) (JoinChains model chain «second_model» «second_chain») ⌝ }
+{
+    let first = [model, chain];
+    let second = [second_model, second_chain];
+    positions::join_at(store, &first, &second)
+}
