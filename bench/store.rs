@@ -89,3 +89,15 @@ pub fn least(runs: usize, mut f: impl FnMut()) -> f64 {
         })
         .fold(f64::INFINITY, f64::min)
 }
+
+// The same with something made anew, untimed, before each run.
+pub fn least_on<T>(runs: usize, mut make: impl FnMut() -> T, mut f: impl FnMut(&mut T)) -> f64 {
+    (0..runs)
+        .map(|_| {
+            let mut on = make();
+            let t = std::time::Instant::now();
+            f(&mut on);
+            t.elapsed().as_nanos() as f64
+        })
+        .fold(f64::INFINITY, f64::min)
+}
