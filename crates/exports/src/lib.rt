@@ -9,11 +9,13 @@ ghost use Rattle.machine.specs.Edit.{storeStep};
 ghost use Rattle.machine.specs.Lookup.{lookupRun};
 ghost use Rattle.additions.specs.Add.{given, optionalOf};
 ghost use Rattle.answers.specs.Fields.{editFields, findFields, lookupFields};
-ghost use Rattle.exports.specs.Numbers.{resultNumber};
+ghost use Rattle.edits.specs.Apply.{appliedNumbers, ran, applyRun};
+ghost use Rattle.exports.specs.Numbers.{resultNumber, applyFields};
 use additions::NewAtom;
 use answers::Edit;
 use answers::Find;
 use answers::Lookup;
+use edits::Applied;
 use store::Checked;
 
 // 0 for a good store, else the refusal's number.
@@ -306,4 +308,47 @@ pub extern "C" fn jubrelti_remove_atoms_by(store: &mut [u64], model: u64, tree: 
 {
     let edited = structs::model::remove_atoms_by(store, model, tree);
     answers::of_edited(edited)
+}
+
+// ---- a list of edits
+
+#[repr(C)]
+pub struct Apply {
+    pub result: u64,
+    pub calls: u64,
+}
+
+// "0 with its fields", or the number of what was refused.
+fn of_applied(applied: Applied) -> Apply
+    ensures { λ r. ⌜ applyFields r ≡ appliedNumbers applied ⌝ }
+{
+    match applied {
+        Applied::Done(calls) => Apply {
+            result: 0,
+            calls: calls,
+        },
+        Applied::Refused(refusal) => {
+            let n = answers::refusal_number(refusal);
+            Apply {
+                result: n,
+                calls: 0,
+            }
+        }
+        Applied::BadList => Apply {
+            result: 22,
+            calls: 0,
+        },
+        Applied::ShortAnswers => Apply {
+            result: 23,
+            calls: 0,
+        },
+    }
+}
+
+#[no_mangle]
+pub extern "C" fn jubrelti_apply(store: &mut [u64], list: &[u64], out: &mut [u64]) -> Apply
+    ensures { λ r. ⌜ ran (applyFields r) (now (store .exit)) (now (out .exit)) ≡ applyRun (now (store .entry)) (now (list .entry)) (now (out .entry)) ⌝ }
+{
+    let applied = edits::apply(store, list, out);
+    of_applied(applied)
 }

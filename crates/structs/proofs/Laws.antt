@@ -37,7 +37,7 @@ use Rattle.machine.specs.declared.Refusal.{Refusal}
 use Rattle.machine.specs.declared.Edited as Edited
 use Rattle.machine.specs.declared.LookedUp as LookedUp
 use Rattle.store.specs.Store.{checkedBy}
-use Rattle.store.specs.Laws.{good-store, refused-store, refused-step, refused-lookup}
+use Rattle.store.specs.Laws.{refused-store, refused-step, refused-lookup}
 use Rattle.store.specs.declared.Checked as Checked
 use Rattle.seek.specs.Seek.{held, Good}
 use Rattle.removals.specs.Removal.{removal}
@@ -45,29 +45,22 @@ use Rattle.joins.specs.Join.{join}
 use Rattle.lookup.specs.Level as Level
 use Rattle.structs.specs.Step.{relaidBy, stepBy}
 
-module _ {c : Checked.Checked} (w : List ℕ) (h : c ≡ checkedBy (readStore w)) where
-  pub good : {n : ℕ} → c ≡ Checked.the-variants.Good n → Good w
-  good e = good-store w (sym e ∙ h) .read
+-- ---- on a refused store
 
-  module _ {r : Refusal} (e : c ≡ Checked.the-variants.Refused r) where
-    pub refused-call : (call : Call) → (editedNumbers (Edited.the-variants.Refused r), w) ≡ storeStep w call
-    refused-call call = sym (refused-step w (sym e ∙ h) call)
+module _ {c : Checked.Checked} {r : Refusal} (w : List ℕ) (h : c ≡ checkedBy (readStore w)) (e : c ≡ Checked.the-variants.Refused r) where
+  pub refused-call : (call : Call) → (editedNumbers (Edited.the-variants.Refused r), w) ≡ storeStep w call
+  refused-call call = sym (refused-step w (sym e ∙ h) call)
 
-    pub refused-by : (step : Machine → Result Change) → (editedNumbers (Edited.the-variants.Refused r), w) ≡ stepBy w step
-    refused-by step = rw (refused-store w (sym e ∙ h))
+  pub refused-by : (step : Machine → Result Change) → (editedNumbers (Edited.the-variants.Refused r), w) ≡ stepBy w step
+  refused-by step = rw (refused-store w (sym e ∙ h))
 
-    pub refused-looked-up : (serial : ℕ) (location : Optional) → lookedUpNumbers (LookedUp.the-variants.Refused r) ≡ lookupRun w serial location
-    refused-looked-up serial location = sym (refused-lookup w (sym e ∙ h) serial location)
+  pub refused-looked-up : (serial : ℕ) (location : Optional) → lookedUpNumbers (LookedUp.the-variants.Refused r) ≡ lookupRun w serial location
+  refused-looked-up serial location = sym (refused-lookup w (sym e ∙ h) serial location)
 
 -- ---- on a good store
 
-module _ {x : List ℕ × List ℕ} (w : List ℕ) (g : Good w) where
-  pub stepped-by : (step : Machine → Result Change) → x ≡ relaid w (held w) (step (held w)) → x ≡ stepBy w step
-  stepped-by step e = rw g e
-
-  pub stepped : (call : Call) (s : Result Change) → x ≡ relaid w (held w) s → machineStep (length w) (held w) call ≡ s → x ≡ storeStep w call
-  unfolding storeStep
-  stepped call s e q = rw (g, q) e
+pub stepped-by : {x : List ℕ × List ℕ} (w : List ℕ) → Good w → (step : Machine → Result Change) → x ≡ relaid w (held w) (step (held w)) → x ≡ stepBy w step
+stepped-by w g step e = rw g e
 
 pub looked-up : (w : List ℕ) (serial : ℕ) (location : Optional) (x : List ℕ) → Good w → x ≡ Level.answer serial location (held w) → x ≡ lookupRun w serial location
 unfolding lookupRun

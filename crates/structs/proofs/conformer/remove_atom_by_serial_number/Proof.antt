@@ -1,6 +1,7 @@
 -- `structs::conformer::remove_atom_by_serial_number` meets its contract. Assumes nothing.
 use borrow.Author.Needs.{needs}
-use Rattle.structs.proofs.Laws.{good, refused-call, stepped}
+use Rattle.steps.specs.Steps.{good, stepped}
+use Rattle.structs.proofs.Laws.{refused-call}
 use Rattle.removals.specs.Named.{atom-step}
 use Rattle.structs.proofs.conformer.remove_atom_by_serial_number.Statement.{statement}
 use Rattle.structs.proofs.conformer.remove_atom_by_serial_number.Tie as tie

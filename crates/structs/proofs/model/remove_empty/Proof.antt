@@ -1,6 +1,7 @@
 -- `structs::model::remove_empty` meets its contract. Assumes nothing.
 use borrow.Author.Needs.{needs}
-use Rattle.structs.proofs.Laws.{empty-removed, good, refused-call, stepped}
+use Rattle.steps.specs.Steps.{good, stepped}
+use Rattle.structs.proofs.Laws.{empty-removed, refused-call}
 use Rattle.structs.proofs.model.remove_empty.Statement.{statement}
 use Rattle.structs.proofs.model.remove_empty.Tie as tie
 

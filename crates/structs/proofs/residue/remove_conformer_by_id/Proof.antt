@@ -1,6 +1,7 @@
 -- `structs::residue::remove_conformer_by_id` meets its contract. Assumes nothing.
 use borrow.Author.Needs.{needs}
-use Rattle.structs.proofs.Laws.{good, refused-call, stepped}
+use Rattle.steps.specs.Steps.{good, stepped}
+use Rattle.structs.proofs.Laws.{refused-call}
 use Rattle.removals.specs.Named.{conformer-step}
 use Rattle.structs.proofs.residue.remove_conformer_by_id.Statement.{statement}
 use Rattle.structs.proofs.residue.remove_conformer_by_id.Tie as tie

@@ -1,0 +1,4 @@
+pub mod Texts
+pub mod Calls
+pub mod Parted
+pub mod Lists

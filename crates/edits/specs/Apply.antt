@@ -1,0 +1,94 @@
+-- A list of edits applied to a store as one call. Assumes nothing.
+use Prim.Native.Nat.{ℕ, _+_, _*_, _%_, _≤_}
+use mathlib.Core.Path.{_≡_}
+use mathlib.Core.Bool.{cond}
+use mathlib.Core.List.{List, [], _∷_, _++_, map}
+use mathlib.Core.Option.{Option, none, some}
+use lib.ListN.{length, getD, take, drop}
+use lib.Dec.{leb}
+use Rattle.machine.specs.Lists.{bind}
+use Rattle.machine.specs.Answer.{Result, ok, refused, refusalNumber}
+use Rattle.machine.specs.Store.{Machine, readStore}
+use Rattle.machine.specs.Edit.{Call, storeStep, storeAfter, storeAnswers}
+use Rattle.additions.specs.declared.NewAtom as Values
+use Rattle.calls.specs.Format.{readCalls}
+use Rattle.edits.specs.declared.Applied.{Applied}
+use Rattle.edits.specs.declared.Applied.the-variants.{Done, Refused, BadList, ShortAnswers}
+
+-- 22 and 23 lie above the numbers of document 01 and those promised to its requests
+abbrev pub appliedNumbers : Applied → List ℕ
+appliedNumbers (Done calls) = 0 ∷ calls ∷ []
+appliedNumbers (Refused r) = refusalNumber r ∷ 0 ∷ []
+appliedNumbers BadList = 22 ∷ 0 ∷ []
+appliedNumbers ShortAnswers = 23 ∷ 0 ∷ []
+
+-- one call of the list, if it is one
+abbrev pub stepOf : List ℕ → Option Call → List ℕ × List ℕ
+stepOf w none = ([], w)
+stepOf w (some c) = storeStep w c
+
+-- the answer's numbers, the store's words and the output's words afterwards
+pub record Run : Type 0 where
+  pub numbers : List ℕ
+  pub store : List ℕ
+  pub out : List ℕ
+
+abbrev pub ran : List ℕ → List ℕ → List ℕ → Run
+ran numbers store out = record { numbers = numbers; store = store; out = out }
+
+-- three words for each call's answer, from the output's first word on
+abbrev pub answered : List (List ℕ) → List ℕ → List ℕ
+answered answers out = bind (λ (a : List ℕ). a) answers ++ drop (3 * length answers) out
+
+-- the store's words and the output's after a list's calls
+abbrev pub applied : List ℕ → List ℕ → List Call → List ℕ × List ℕ
+applied w out cs = (storeAfter w cs, answered (storeAnswers w cs) out)
+
+abbrev pub runCalls : List ℕ → List ℕ → Option (List Call) → Run
+runCalls w out none = ran (appliedNumbers BadList) w out
+runCalls w out (some cs) =
+    cond (leb (3 * length cs) (length out))
+    (ran (appliedNumbers (Done (length cs))) (applied w out cs .0) (applied w out cs .1))
+    (ran (appliedNumbers ShortAnswers) w out)
+
+abbrev pub runRead : List ℕ → List ℕ → List ℕ → Result Machine → Run
+runRead w list out (refused r) = ran (appliedNumbers (Refused r)) w out
+runRead w list out (ok m) = runCalls w out (readCalls list)
+
+-- 1 and 2 by the store, then the list, then the output; a refusal changes nothing
+unfoldable pub applyRun : List ℕ → List ℕ → List ℕ → Run
+applyRun w list out = runRead w list out (readStore w)
+
+-- ---- what inner contracts cite
+
+-- the calls of a list that is well formed
+abbrev pub callsOf : Option (List Call) → List Call
+callsOf none = []
+callsOf (some cs) = cs
+
+abbrev pub lowByte : ℕ → ℕ
+lowByte n = n % 256
+
+-- the bytes begin with the words: a text's words are bytes
+pub record Narrowed (ws bytes : List ℕ) : Type 0 where
+  pub room : length ws ≤ length bytes
+  pub same : take (length ws) bytes ≡ map lowByte ws
+
+-- where the part that starts at a word ends: after its length, and as many words
+abbrev pub partEnd : List ℕ → ℕ → ℕ
+partEnd ws at = at + 1 + getD ws at 0
+
+-- the values of a new atom among the numbers of its call
+abbrev pub valuesIn : List ℕ → Values.NewAtom
+valuesIn ws =
+    record {
+      serial = getD ws 4 0;
+      x = getD ws 5 0;
+      y = getD ws 6 0;
+      z = getD ws 7 0;
+      occupancy = getD ws 8 0;
+      «b_factor» = getD ws 9 0;
+      element = getD ws 10 0;
+      charge = getD ws 11 0;
+      hetero = getD ws 12 0;
+    }

@@ -1,0 +1,1 @@
+// Laws about one edit of a good store, in specs/. There is no code here.
