@@ -1,5 +1,8 @@
 // compare [SEED] [LISTS]: random lists of calls on the port, on pdbtbx's own files, and on a plain reading of document 01.
-// After each call the answers, every word and the hits of a tree are compared. A disagreement stops the run and prints its list.
+// After each call the answers, every word and the hits of a tree are compared; after each list, the list as one call. A disagreement
+// stops the run and prints its call.
+mod junk;
+mod list;
 mod original;
 mod plain;
 mod port;
@@ -15,6 +18,7 @@ struct Counts {
     finds: u64,
     finds_with_crate: u64,
     lookups: u64,
+    spoilt: u64,
 }
 
 // A call with only ASCII texts can be given to the crate.
@@ -46,12 +50,36 @@ fn find(store: &[u64], machine: &plain::Machine, crate_pdb: Option<&pdbtbx::PDB>
     }
 }
 
+// The same calls as one list: the same answers and the same words. Then the list with some word changed.
+fn as_one(r: &mut Random, length: usize, calls: &[Call], answers: &[u64], after: &[u64], counts: &mut Counts) {
+    let words: Vec<u64> = calls.iter().flat_map(list::words).collect();
+    let opened = vec![0u64; length];
+    junk::compare(&opened, &words, &vec![7; answers.len() + r.below(4) as usize], Some((answers, after)));
+    if answers.is_empty() {
+        return;
+    }
+    let short = r.below(answers.len() as u64) as usize;
+    junk::compare(&opened, &words, &vec![7; short], None);
+    for _ in 0..4 {
+        let mut spoilt = words.clone();
+        let i = r.below(words.len() as u64) as usize;
+        if r.one_in(3) {
+            spoilt.truncate(i);
+        } else {
+            spoilt[i] = r.junk();
+        }
+        junk::compare(&opened, &spoilt, &vec![7; answers.len() + 30], None);
+        counts.spoilt += 1;
+    }
+}
+
 fn list(r: &mut Random, counts: &mut Counts) {
     let length = 1 + r.below(30 * 12) as usize;
     let mut store: Vec<u64> = (0..length).map(|_| r.word()).collect();
     assert_eq!(port::open(&mut store), 0);
     let mut machine = Vec::new();
     let mut pdb = Some(pdbtbx::PDB::new());
+    let (mut calls, mut answers) = (Vec::new(), Vec::new());
     for _ in 0..r.below(60) {
         let call = r.call(&machine);
         let before = store.clone();
@@ -76,13 +104,18 @@ fn list(r: &mut Random, counts: &mut Counts) {
         let (serial, location) = (r.small(), r.optional());
         assert_eq!(port::binary_find_atom(&store, serial, &location), plain::lookup(&machine, serial, &location), "lookup");
         counts.lookups += 1;
+        answers.extend([ours.result, ours.found, ours.removed]);
+        calls.push(call);
     }
+    as_one(r, length, &calls, &answers, &store, counts);
 }
 
 fn main() {
     let mut args = std::env::args().skip(1).map(|a| a.parse::<u64>().expect("a number"));
     let seed = args.next().unwrap_or(1);
     let lists = args.next().unwrap_or(100_000);
+    let headers = junk::headers();
+    println!("{headers} lists with a number in a header's place, or cut short: each answered as document and format say");
     let mut counts = Counts::default();
     for i in 0..lists {
         let mut r = Random::new(seed.wrapping_mul(1_000_003).wrapping_add(i));
@@ -90,5 +123,5 @@ fn main() {
     }
     println!("seed {seed}, {lists} lists, no disagreement");
     println!("edits {}, accepted {}, with the crate {}", counts.calls, counts.accepted, counts.with_crate);
-    println!("finds {}, with the crate {}; lookups {}", counts.finds, counts.finds_with_crate, counts.lookups);
+    println!("finds {}, with the crate {}; lookups {}; spoilt lists {}", counts.finds, counts.finds_with_crate, counts.lookups, counts.spoilt);
 }

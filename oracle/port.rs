@@ -22,6 +22,13 @@ pub struct Lookup {
     pub at: [u64; 5],
 }
 
+#[repr(C)]
+#[derive(Clone, Copy, Debug, PartialEq)]
+pub struct Apply {
+    pub result: u64,
+    pub calls: u64,
+}
+
 // A new atom's numbers; floats and the charge by their bits.
 #[repr(C)]
 #[derive(Clone, Copy, Debug, PartialEq)]
@@ -53,6 +60,7 @@ extern "C" {
     fn jubrelti_open(store: Words, n: usize) -> u64;
     fn jubrelti_find(store: Shared, n: usize, tree: Shared, t: usize, out: Words, o: usize) -> Find;
     fn jubrelti_binary_find_atom(store: Shared, n: usize, serial: u64, flag: u64, location: Bytes, l: usize) -> Lookup;
+    fn jubrelti_apply(store: Words, n: usize, list: Shared, l: usize, out: Words, o: usize) -> Apply;
     fn jubrelti_add_model(store: Words, n: usize, serial: u64) -> Edit;
     #[rustfmt::skip]
     fn jubrelti_add_atom(
@@ -98,6 +106,10 @@ pub fn find(store: &[u64], tree: &[u64], out: &mut [u64]) -> Find {
 
 pub fn binary_find_atom(store: &[u64], serial: u64, o: &Optional) -> Lookup {
     unsafe { jubrelti_binary_find_atom(store.as_ptr(), store.len(), serial, o.flag, o.text.as_ptr(), o.text.len()) }
+}
+
+pub fn apply(store: &mut [u64], list: &[u64], out: &mut [u64]) -> Apply {
+    unsafe { jubrelti_apply(store.as_mut_ptr(), store.len(), list.as_ptr(), list.len(), out.as_mut_ptr(), out.len()) }
 }
 
 // "The sixteen edit calls", with the arguments other than the store.

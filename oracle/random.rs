@@ -44,6 +44,15 @@ impl Random {
         if self.one_in(40) { self.word() } else { self.below(5) }
     }
 
+    // For some word of a list.
+    pub fn junk(&mut self) -> u64 {
+        match self.below(3) {
+            0 => self.below(20),
+            1 => self.pick(&[127, 128, 255, 256, 257, 1_024, 1_025, 1 << 32, 1 << 63, u64::MAX - 1, u64::MAX]),
+            _ => self.word(),
+        }
+    }
+
     pub fn optional(&mut self) -> Optional {
         let flag = if self.one_in(40) { 2 + self.below(3) } else { self.below(2) };
         Optional { flag, text: self.text(&CODES) }
