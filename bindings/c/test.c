@@ -1,0 +1,98 @@
+/* Builds document 01's store S, searches it and edits it; exits with 1 at the first wrong answer. */
+#include "jubrelti.h"
+
+#include <stdio.h>
+#include <stdlib.h>
+#include <string.h>
+
+enum { LENGTH = 6 * 12 + 1, OUT = 6 * 5 };
+
+static uint64_t store[LENGTH];
+static uint64_t out[OUT];
+
+static void expect(const char *what, uint64_t is, uint64_t should) {
+    printf("%-44s %llu\n", what, (unsigned long long)is);
+    if (is != should) {
+        printf("should be %llu\n", (unsigned long long)should);
+        exit(1);
+    }
+}
+
+/* A text as the packed word of a tree: its bytes from the highest byte down. */
+static uint64_t packed(const char *text) {
+    uint64_t word = 0;
+    for (size_t i = 0; i < 8 && text[i] != 0; i++) {
+        word |= (uint64_t)(uint8_t)text[i] << (56 - 8 * i);
+    }
+    return word;
+}
+
+static uint64_t bits(double value) {
+    uint64_t word;
+    memcpy(&word, &value, sizeof word);
+    return word;
+}
+
+static const uint8_t *bytes(const char *text) {
+    return (const uint8_t *)text;
+}
+
+/* An atom of residue 7, conformer ALA, in chain A of the first model. */
+static JubreltiEdit add(uint64_t serial, const char *name, uint64_t element, double x) {
+    JubreltiNewAtom values = {0};
+    values.serial = serial;
+    values.x = bits(x);
+    values.occupancy = bits(1.0);
+    values.element = element;
+    return jubrelti_add_atom(store, LENGTH, 0, bytes("A"), 1, 7, 0, bytes(""), 0, bytes("ALA"), 3, 0, bytes(""), 0, bytes(name),
+                             strlen(name), values);
+}
+
+int main(void) {
+    const uint64_t nitrogen[] = {JUBRELTI_ELEMENT, 7, 0};
+    const uint64_t not_nitrogen[] = {JUBRELTI_ELEMENT, 7, 0, JUBRELTI_NOT, 0, 0};
+    const uint64_t named_n[] = {JUBRELTI_ATOM_NAME, packed("N"), 0, JUBRELTI_ELEMENT, 7, 0, JUBRELTI_AND, 0, 0};
+    const uint64_t two_operands[] = {JUBRELTI_HETERO, 0, 0, JUBRELTI_HETERO, 0, 0};
+
+    memset(store, 0xff, sizeof store);
+    expect("words that were never opened are refused", jubrelti_check(store, LENGTH), JUBRELTI_BROKEN_LAYOUT);
+    expect("a store of no words is refused", jubrelti_open(store, 0), JUBRELTI_BAD_LENGTH);
+    expect("open", jubrelti_open(store, LENGTH), JUBRELTI_DONE);
+    expect("an atom needs a model", add(1, "N", 7, 0.0).result, JUBRELTI_NO_POSITION);
+    expect("add model 1", jubrelti_add_model(store, LENGTH, 1).result, JUBRELTI_DONE);
+    expect("add N", add(1, "N", 7, 1.5).result, JUBRELTI_DONE);
+    expect("add XX without an element", add(2, "XX", 0, 2.5).result, JUBRELTI_DONE);
+    expect("the store is full", add(3, "C", 6, 3.5).result, JUBRELTI_NO_CAPACITY);
+    expect("check", jubrelti_check(store, LENGTH), JUBRELTI_DONE);
+    expect("x of record 4", store[4 * 12 + 3], bits(1.5));
+
+    JubreltiFind found = jubrelti_find(store, LENGTH, nitrogen, 3, out, OUT);
+    expect("find nitrogen", found.result, JUBRELTI_DONE);
+    expect("hits, the undecided atom among them", found.hits, 2);
+    expect("atom of the second hit", out[9], 5);
+    found = jubrelti_find(store, LENGTH, not_nitrogen, 6, out, OUT);
+    expect("hits of not nitrogen", found.hits, 1);
+    for (uint64_t level = 0; level < 5; level++) {
+        expect("record", out[level], level == 4 ? 5 : level);
+    }
+    expect("hits of N and nitrogen", jubrelti_find(store, LENGTH, named_n, 9, out, OUT).hits, 1);
+    expect("two operands are no tree", jubrelti_find(store, LENGTH, two_operands, 6, out, OUT).result, JUBRELTI_TREE_SHAPE);
+    expect("no room for two hits", jubrelti_find(store, LENGTH, nitrogen, 3, out, 9).result, JUBRELTI_SHORT_OUTPUT);
+
+    JubreltiLookup at = jubrelti_binary_find_atom(store, LENGTH, 2, 0, bytes(""), 0);
+    expect("look up serial 2", at.found, 1);
+    expect("its record", at.atom, 5);
+    expect("serial 9 isn't there", jubrelti_binary_find_atom(store, LENGTH, 9, 0, bytes(""), 0).found, 0);
+
+    JubreltiEdit edited = jubrelti_remove_atoms_by(store, LENGTH, 0, not_nitrogen, 6);
+    expect("remove what is known not to be nitrogen", edited.removed, 0);
+    expect("remove atom 0", jubrelti_remove_atom(store, LENGTH, 0, 0, 0, 0, 0).removed, 1);
+    expect("atom 1 is gone, as XX moved up", jubrelti_remove_atom(store, LENGTH, 0, 0, 0, 0, 1).result, JUBRELTI_NO_POSITION);
+    edited = jubrelti_remove_chain_by_id(store, LENGTH, 0, bytes("B"), 1);
+    expect("no chain B", edited.found, 0);
+    edited = jubrelti_remove_chain_by_id(store, LENGTH, 0, bytes("A"), 1);
+    expect("chain A and its atom go", edited.removed, 1);
+    expect("one record is left", store[LENGTH - 1], 12);
+    puts("all answers are right");
+    return 0;
+}

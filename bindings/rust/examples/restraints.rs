@@ -1,0 +1,82 @@
+// Picks atoms as a restraint builder would: main chain, side chains, what is loose, and what isn't hydrogen.
+use jubrelti::*;
+
+// Serial number, name, symbol (empty where the reader found none), position, B-factor.
+type Line = (usize, &'static str, &'static str, [f64; 3], f64);
+
+const SERINE: [Line; 6] = [
+    (1, "N", "N", [0.0, 0.0, 0.0], 12.0),
+    (2, "CA", "C", [1.46, 0.0, 0.0], 12.5),
+    (3, "C", "C", [1.98, 1.43, 0.0], 13.0),
+    (4, "O", "O", [1.2, 2.4, 0.0], 14.5),
+    (5, "CB", "C", [2.0, -0.76, 1.21], 18.0),
+    (6, "OG", "O", [3.42, -0.7, 1.2], 41.0),
+];
+
+const GLYCINE: [Line; 4] = [
+    (7, "N", "N", [3.31, 1.55, 0.0], 12.0),
+    (8, "CA", "C", [3.98, 2.84, 0.0], 12.0),
+    (9, "C", "C", [5.49, 2.68, 0.0], 12.0),
+    (10, "O", "O", [6.0, 1.56, 0.0], 12.0),
+];
+
+const FRAGMENT: [Line; 3] =
+    [(11, "C1", "C", [6.1, -3.0, 2.2], 35.0), (12, "O1", "O", [7.3, -3.1, 2.4], 36.0), (13, "X1", "", [5.2, -3.9, 2.0], 38.0)];
+
+fn add(store: &mut Store, lines: &[Line], chain: &str, residue: isize, name: &str) -> Result<(), Error> {
+    for &(serial_number, atom, symbol, [x, y, z], b_factor) in lines {
+        let new_atom = NewAtom {
+            serial_number,
+            name: atom,
+            x,
+            y,
+            z,
+            occupancy: 1.0,
+            b_factor,
+            element: Element::from_symbol(symbol),
+            charge: 0,
+            hetero: name == "LIG",
+        };
+        store.add_atom(0, new_atom, chain, (residue, None), (name, None))?;
+    }
+    Ok(())
+}
+
+fn pick(store: &Store, title: &str, search: impl Into<Search>) -> Result<(), Error> {
+    println!("{title}");
+    for hit in store.find(search)? {
+        let (atom, residue) = (hit.atom(), hit.residue());
+        let (x, y, z) = atom.pos();
+        println!(
+            "  {:>3} {:<4} {} {}{:<4} {x:7.3} {y:7.3} {z:7.3}  B {:.1}",
+            atom.serial_number(),
+            atom.name(),
+            hit.conformer().name(),
+            hit.chain().id(),
+            residue.serial_number(),
+            atom.b_factor()
+        );
+    }
+    Ok(())
+}
+
+fn main() -> Result<(), Error> {
+    let mut store = Store::with_records(100)?;
+    store.add_model(1)?;
+    add(&mut store, &SERINE, "A", 1, "SER")?;
+    add(&mut store, &GLYCINE, "A", 2, "GLY")?;
+    add(&mut store, &FRAGMENT, "B", 1, "LIG")?;
+
+    pick(&store, "main chain, for bonds and planes", Term::Backbone & !Term::Hetero)?;
+    pick(&store, "side chains, for rotamers", Term::SideChain & Term::ChainId("A".to_owned()))?;
+    pick(&store, "loose or ligand, for tighter restraints", Term::BFactorRange(30.0, f64::INFINITY) | Term::Hetero)?;
+    // X1 may be hydrogen or not, so it is listed: a search leaves out only what it knows to be false.
+    let ligand = Term::ConformerName("LIG".to_owned());
+    pick(&store, "ligand without hydrogen, for contacts", ligand & !Term::Element(Element::H))?;
+
+    let edited = store.remove_atoms_by(0, Term::BFactorRange(40.0, f64::INFINITY))?;
+    println!("removed {} atom above B 40", edited.removed);
+    let left = store.find(Search::Known(true))?.len();
+    println!("{left} atoms left");
+    Ok(())
+}

@@ -1,0 +1,60 @@
+// A list of edits as one call gives the answers and leaves the words of its edits one by one.
+use jubrelti::*;
+
+fn atom(serial_number: usize) -> NewAtom<'static> {
+    NewAtom { serial_number, name: "CA", element: Some(Element::C), ..NewAtom::default() }
+}
+
+#[test]
+fn each_edit_as_by_itself() {
+    let mut edits = Edits::new();
+    edits.add_model(1).add_model(2);
+    for (serial, chain, residue, location) in [(1, "A", 1, None), (2, "A", 2, Some("a")), (3, " B", 1, Some("B")), (4, "B", 1, None)] {
+        edits.add_atom(0, atom(serial), chain, (residue, Some("x")), ("GLY", location));
+    }
+    edits.add_atom(7, atom(5), "A", (1, None), ("GLY", None));
+    edits.remove_atom([0, 0, 0, 0, 0]).remove_empty(0).remove_chain_by_id(0, "C").remove_residue_by_id([0, 0], (2, Some("X")));
+    edits.remove_conformer_by_id([0, 1, 0], ("GLY", Some("B"))).remove_atom_by_serial_number([0, 1, 0, 0], 9);
+    edits.join_chains([0, 1], [0, 0]).join_models(1, 0).join_residues([0, 0, 0], [0, 0, 0]).join_conformers([0; 4], [0, 0, 0, 1]);
+    edits.remove_atoms_by(0, Term::Hetero).unwrap();
+    edits.remove_conformer([0; 4]).remove_residue([0; 3]).remove_chain([0; 2]);
+
+    let mut one_by_one = Store::with_records(20).unwrap();
+    let s = &mut one_by_one;
+    let mut answers = vec![s.add_model(1), s.add_model(2)];
+    for (serial, chain, residue, location) in [(1, "A", 1, None), (2, "A", 2, Some("a")), (3, " B", 1, Some("B")), (4, "B", 1, None)] {
+        answers.push(s.add_atom(0, atom(serial), chain, (residue, Some("x")), ("GLY", location)));
+    }
+    answers.extend([
+        s.add_atom(7, atom(5), "A", (1, None), ("GLY", None)),
+        s.remove_atom([0, 0, 0, 0, 0]),
+        s.remove_empty(0),
+        s.remove_chain_by_id(0, "C"),
+        s.remove_residue_by_id([0, 0], (2, Some("X"))),
+        s.remove_conformer_by_id([0, 1, 0], ("GLY", Some("B"))),
+        s.remove_atom_by_serial_number([0, 1, 0, 0], 9),
+        s.join_chains([0, 1], [0, 0]),
+        s.join_models(1, 0),
+        s.join_residues([0, 0, 0], [0, 0, 0]),
+        s.join_conformers([0; 4], [0, 0, 0, 1]),
+        s.remove_atoms_by(0, Term::Hetero),
+        s.remove_conformer([0; 4]),
+        s.remove_residue([0; 3]),
+        s.remove_chain([0; 2]),
+    ]);
+    assert!(answers.iter().any(|a| a.is_err()) && answers.iter().any(|a| a.is_ok()));
+
+    let mut as_one = Store::with_records(20).unwrap();
+    assert_eq!(as_one.apply(&edits), Ok(answers));
+    assert_eq!(as_one.words(), one_by_one.words());
+}
+
+#[test]
+fn refused_as_a_whole() {
+    let mut edits = Edits::new();
+    edits.add_model(1).remove_chain_by_id(0, "A".repeat(2_000));
+    let mut store = Store::with_records(20).unwrap();
+    let before = store.words().to_vec();
+    assert_eq!(store.apply(&edits), Err(ListError::BadList));
+    assert_eq!(store.words(), before);
+}

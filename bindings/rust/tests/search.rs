@@ -1,0 +1,120 @@
+// Operators, their shapes, and the nodes they become.
+use jubrelti::*;
+
+fn serial(n: usize) -> Term {
+    Term::AtomSerialNumber(n)
+}
+
+fn ops(ops: Ops, left: impl Into<Search>, right: impl Into<Search>) -> Search {
+    Search::Ops(ops, Box::new(left.into()), Box::new(right.into()))
+}
+
+// The codes of a search's nodes.
+fn codes(search: Search) -> Vec<u64> {
+    search.nodes().unwrap().chunks(3).map(|node| node[0]).collect()
+}
+
+fn text(t: &str) -> String {
+    t.to_owned()
+}
+
+#[test]
+fn each_operator_takes_terms_and_searches() {
+    let known = || Search::Known(true);
+    assert_eq!(serial(1) & serial(2), ops(Ops::And, serial(1), serial(2)));
+    assert_eq!(serial(1) & known(), ops(Ops::And, serial(1), known()));
+    assert_eq!(known() & serial(2), ops(Ops::And, known(), serial(2)));
+    assert_eq!(known() & known(), ops(Ops::And, known(), known()));
+    assert_eq!(serial(1) | serial(2), ops(Ops::Or, serial(1), serial(2)));
+    assert_eq!(serial(1) | known(), ops(Ops::Or, serial(1), known()));
+    assert_eq!(known() | serial(2), ops(Ops::Or, known(), serial(2)));
+    assert_eq!(known() | known(), ops(Ops::Or, known(), known()));
+    assert_eq!(serial(1) ^ serial(2), ops(Ops::Xor, serial(1), serial(2)));
+    assert_eq!(serial(1) ^ known(), ops(Ops::Xor, serial(1), known()));
+    assert_eq!(known() ^ serial(2), ops(Ops::Xor, known(), serial(2)));
+    assert_eq!(known() ^ known(), ops(Ops::Xor, known(), known()));
+    assert_eq!(!serial(1), Search::Not(Box::new(Search::Single(serial(1)))));
+    assert_eq!(!known(), Search::Not(Box::new(known())));
+}
+
+// `!` binds first, then `&`, `^` and `|`; equal ones group from the left.
+#[test]
+fn precedence() {
+    let (a, b, c, d) = (|| serial(1), || serial(2), || serial(3), || serial(4));
+    assert_eq!(a() | b() ^ c() & !d(), a() | (b() ^ (c() & (!d()))));
+    assert_eq!(a() & b() | c(), (a() & b()) | c());
+    assert_eq!(a() & b() & c(), (a() & b()) & c());
+    assert_ne!(a() & b() & c(), a() & (b() & c()));
+}
+
+#[test]
+fn nodes_in_postfix_order() {
+    let search = Term::ChainId(text("A")) & !Term::Hetero | Search::Known(false) ^ Search::Known(true);
+    assert_eq!(codes(search), [3, 22, 26, 23, 27, 28, 25, 24]);
+    let left_first = (serial(1) & serial(2)).nodes().unwrap();
+    assert_eq!(left_first, [12, 1, 0, 12, 2, 0, 23, 0, 0]);
+}
+
+#[test]
+fn each_term_is_its_node() {
+    const A: u64 = 0x41 << 56;
+    const B: u64 = 0x42 << 56;
+    const ALA: u64 = 0x0041_4c41 << 40;
+    let minus_one = u64::MAX;
+    let (half, one) = (0.5f64.to_bits(), 1f64.to_bits());
+    let terms = [
+        (Term::ModelSerialNumber(1), [1, 1, 0]),
+        (Term::ModelSerialNumberRange(1, 2), [2, 1, 2]),
+        (Term::ChainId(text("A")), [3, A, 0]),
+        (Term::ChainIdRange(text("A"), text("B")), [4, A, B]),
+        (Term::ResidueSerialNumber(-1), [5, minus_one, 0]),
+        (Term::ResidueSerialNumberRange(-1, 2), [6, minus_one, 2]),
+        (Term::ResidueInsertionCode(Some(text("A"))), [7, A, 0]),
+        (Term::ResidueInsertionCode(None), [7, 0, 0]),
+        (Term::ResidueId(-1, Some(text("A"))), [8, minus_one, A]),
+        (Term::ConformerName(text("ALA")), [9, ALA, 0]),
+        (Term::ConformerAlternativeLocation(Some(text("B"))), [10, B, 0]),
+        (Term::ConformerId(text("ALA"), None), [11, ALA, 0]),
+        (Term::AtomSerialNumber(3), [12, 3, 0]),
+        (Term::AtomSerialNumberRange(3, 4), [13, 3, 4]),
+        (Term::AtomName(text("")), [14, 0, 0]),
+        (Term::Element(Element::Og), [15, 118, 0]),
+        (Term::BFactor(0.5), [16, half, 0]),
+        (Term::BFactorRange(0.5, 1.0), [17, half, one]),
+        (Term::Occupancy(1.0), [18, one, 0]),
+        (Term::OccupancyRange(0.5, 1.0), [19, half, one]),
+        (Term::Backbone, [20, 0, 0]),
+        (Term::SideChain, [21, 0, 0]),
+        (Term::Hetero, [22, 0, 0]),
+    ];
+    for (term, node) in terms {
+        assert_eq!(Search::from(term.clone()).nodes().unwrap(), node, "{term:?}");
+    }
+}
+
+#[test]
+fn texts_that_cannot_be_packed() {
+    let refused = |term: Term| Search::from(term).nodes().unwrap_err();
+    assert!(Search::from(Term::ChainId(text(" 234567~"))).nodes().is_ok());
+    assert_eq!(refused(Term::ChainId(text("123456789"))), Error::QueryText(text("123456789")));
+    assert_eq!(refused(Term::AtomName(text("C\0"))), Error::QueryText(text("C\0")));
+    assert_eq!(refused(Term::AtomName(text("\u{1f}"))), Error::QueryText(text("\u{1f}")));
+    assert_eq!(refused(Term::AtomName(text("\u{7f}"))), Error::QueryText(text("\u{7f}")));
+    assert_eq!(refused(Term::ConformerName(text("Å"))), Error::QueryText(text("Å")));
+    assert_eq!(refused(Term::ResidueInsertionCode(Some(text("")))), Error::QueryText(text("")));
+    assert_eq!(refused(Term::ConformerId(text("ALA"), Some(text("")))), Error::QueryText(text("")));
+}
+
+#[test]
+fn elements() {
+    for n in 1..=118 {
+        let element = Element::new(n).unwrap();
+        assert_eq!(element.atomic_number(), n);
+        assert_eq!(Element::from_symbol(element.to_string().to_ascii_uppercase()), Some(element));
+    }
+    assert_eq!((Element::new(0), Element::new(119)), (None, None));
+    let noble = [Element::He, Element::Ne, Element::Ar, Element::Kr, Element::Xe, Element::Rn, Element::Og];
+    assert_eq!(noble.map(|e| e.atomic_number()), [2, 10, 18, 36, 54, 86, 118]);
+    assert_eq!((Element::from_symbol("fe"), Element::from_symbol("Xx")), (Some(Element::Fe), None));
+    assert_eq!(Element::Og.to_string(), "Og");
+}
