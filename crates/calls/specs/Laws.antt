@@ -11,16 +11,12 @@ use lib.Dec.{leb, leb·suc-suc}
 use borrow.Author.Tests.{leb-true, le-leb}
 use Rattle.machine.specs.Lists.{all, bind, andThen}
 use Rattle.machine.specs.Edit.{Call, AddModel, AddAtom, RemoveChain, RemoveResidue, RemoveConformer, RemoveAtom, RemoveChainById, RemoveResidueById, RemoveConformerById, RemoveAtomBySerialNumber, RemoveAtomsBy, RemoveEmpty, JoinModels, JoinChains, JoinResidues, JoinConformers}
-use Rattle.laws.specs.Lists.{All, and-both}
+use Rattle.laws.specs.Lists.{All, and-both, and-then}
 use Rattle.calls.specs.Format.{codeOf, numbersOf, partsOf, body, writeCall, writeCalls, numbersIn, partsIn, goodPart, readParts, callOf, readCall, longest, callsIn, readCalls}
 
 picked : {A : Type 0} (b : Bool) (o : Option A) (x : A) → cond b o none ≡ some x → (b ≡ true) × (o ≡ some x)
 picked true o x e = (refl, e)
 picked false o x e = let z : _≡_ {A = ℕ} 0 1 = cc in absurd (omega arith)
-
-and-then : {A B : Type 0} (o : Option A) (f : A → Option B) (y : B) → andThen o f ≡ some y → (x : A) × (o ≡ some x) × (f x ≡ some y)
-and-then none f y e = let z : _≡_ {A = ℕ} 0 1 = cc in absurd (omega arith)
-and-then (some x) f y e = (x, refl, e)
 
 -- ---- a call's parts
 

@@ -8,11 +8,12 @@ use native.Mathlib.Omega.{arith}
 use lib.ListN.{length}
 use lib.Dec.{eqb}
 use borrow.Author.Tests.{eqb-true, eqb-false, eq-eqb}
-use Rattle.machine.specs.Lists.{nth, splice, andThen, same}
+use Rattle.machine.specs.Lists.{nth, splice, same}
 use Rattle.machine.specs.Store.{Branch, flat}
 use Rattle.machine.specs.Find.{size}
 use Rattle.machine.specs.Lookup.{numbered}
 use Rattle.machine.specs.Edit.{up, replaceAt}
+use Rattle.laws.specs.Lists.{and-then}
 use Rattle.laws.specs.Places.{replace-sum, flat-splits}
 use Rattle.laws.specs.Places as places
 use Rattle.seek.specs.Seek.{spanAt}
@@ -78,10 +79,6 @@ module _ (k g : ℕ) (f : Branch k → Branch k) where
   grown (suc i) n (t ∷ ts) v e = grown i (n + size k t) ts v e
 
 -- ---- a position
-
-and-then : {A B : Type 0} (o : Option A) (f : A → Option B) (y : B) → andThen o f ≡ some y → (x : A) × (o ≡ some x) × (f x ≡ some y)
-and-then none f y e = impossible e
-and-then (some x) f y e = (x, refl, e)
 
 pair : (a b c d : ℕ) → _≡_ {A = Option (ℕ × ℕ)} (some (a, b)) (some (c, d)) → (a ≡ c) × (b ≡ d)
 pair a b c d e =

@@ -1,13 +1,14 @@
--- Laws of Bool tests and of lists, for the other laws. Assumes nothing.
+-- Laws of Bool tests, of what may be missing, and of lists, for the other laws. Assumes nothing.
 use Prim.Native.Nat.{ℕ, _+_}
 use mathlib.Core.Path.{_≡_, refl}
 use mathlib.Core.Bool.{Bool, true, false, _&&_, false≢true}
+use mathlib.Core.Option.{Option, none, some}
 use mathlib.Core.List.{List, [], _∷_, _++_, map, append-assoc}
 use native.Mathlib.Omega.{arith}
 use lib.ListN.{length, length-append}
 use lib.Dec.{eqb}
 use borrow.Author.Tests.{eqb-true, eq-eqb}
-use Rattle.machine.specs.Lists.{all, sum, bind, same}
+use Rattle.machine.specs.Lists.{all, sum, bind, andThen, same}
 
 pub and-both : (a b : Bool) → a && b ≡ true → (a ≡ true) × (b ≡ true)
 and-both true b h = (refl, h)
@@ -29,6 +30,10 @@ same-true (x ∷ xs) (y ∷ ys) h =
 pub same-refl : (xs : List ℕ) → same xs xs ≡ true
 same-refl [] = refl
 same-refl (x ∷ xs) = and-true (eq-eqb x x refl) (same-refl xs)
+
+pub and-then : {A B : Type 0} (o : Option A) (f : A → Option B) (y : B) → andThen o f ≡ some y → (x : A) × (o ≡ some x) × (f x ≡ some y)
+and-then none f y e = let z : _≡_ {A = ℕ} 0 1 = cc in absurd (omega arith)
+and-then (some x) f y e = (x, refl, e)
 
 module _ {A : Type 0} where
   abbrev pub All : (A → Type 0) → List A → Type 0

@@ -12,7 +12,7 @@ use Rattle.machine.specs.Lists.{all, sum, bind, nth, splice, andThen, same}
 use Rattle.machine.specs.Record.{Words, words, goodFields}
 use Rattle.machine.specs.Store.{Branch, flat, atomCount}
 use Rattle.machine.specs.Edit.{up, branchAt, replaceAt}
-use Rattle.laws.specs.Lists.{and-both, and-true, All-of, all-of, All-append, sum-append, bind-append, length-bind}
+use Rattle.laws.specs.Lists.{and-both, and-true, and-then, All-of, all-of, All-append, sum-append, bind-append, length-bind}
 use Rattle.laws.specs.Good.{goodBranch}
 
 -- ---- one index
@@ -65,10 +65,6 @@ module _ {A : Type 0} where
   nth-other zero (suc k) f h (x ∷ xs) = refl
   nth-other (suc i) zero f h (x ∷ xs) = refl
   nth-other (suc i) (suc k) f h (x ∷ xs) = nth-other i k f (λ e. h (ap suc e)) xs
-
-and-then : {A B : Type 0} (o : Option A) (f : A → Option B) (y : B) → andThen o f ≡ some y → (x : A) × (o ≡ some x) × (f x ≡ some y)
-and-then none f y e = let z : _≡_ {A = ℕ} 0 1 = cc in absurd (omega arith)
-and-then (some x) f y e = (x, refl, e)
 
 and-then-map : {A B : Type 0} (f : A → A) (g : A → Option B) → ((x : A) → g (f x) ≡ g x) → (o : Option A) → andThen (Option·map f o) g ≡ andThen o g
 and-then-map f g h none = refl

@@ -17,7 +17,7 @@ use Rattle.machine.specs.Store.{Branch, Machine, flat, records, atomCount, stor
 use Rattle.machine.specs.Find.{size}
 use Rattle.machine.specs.Lookup.{numbered}
 use Rattle.machine.specs.Edit.{up, branchAt, replaceAt}
-use Rattle.laws.specs.Lists.{sum-append, bind-append}
+use Rattle.laws.specs.Lists.{and-then, sum-append, bind-append}
 use Rattle.laws.specs.Grouped.{words-kind, group-flats, chunks-length}
 use Rattle.laws.specs.Layout.{records-read, read-parts}
 use Rattle.laws.specs.Places.{Around, Spot}
@@ -83,10 +83,6 @@ pub record Stands (d j : ℕ) (pos : List ℕ) (n : ℕ) (ts : List (Branch (up 
 pub record Stood (d j : ℕ) (pos : List ℕ) (n : ℕ) (ts : List (Branch (up d j))) (t : Branch j) : Type 0 where
   pub spot : Spot d j pos ts t
   pub span : spanAt d j pos n ts ≡ some (n + length (spot .pre), n + length (spot .pre) + size j t)
-
-and-then : {A B : Type 0} (o : Option A) (f : A → Option B) (y : B) → andThen o f ≡ some y → (x : A) × (o ≡ some x) × (f x ≡ some y)
-and-then none f y e = let z : _≡_ {A = ℕ} 0 1 = cc in absurd (omega arith)
-and-then (some x) f y e = (x, refl, e)
 
 -- the records around one branch's child
 flats-below : (k : ℕ) (before after : List (Branch (suc k))) (u : Branch (suc k)) (ts : List (Branch (suc k))) (pre mid post : List Words)
