@@ -131,8 +131,10 @@ examples =
     -- find: an output too short stays, and one that fits exactly is enough
     ∷ example (lines (findRun S element7 (replicate 9 8) .0 ∷ findRun S element7 (replicate 9 8) .1 ∷ [])) (10 ∷ 0 ∷ replicate 9 8)
     ∷ example (findRun S element7 (replicate 10 8) .0) (0 ∷ 2 ∷ [])
-    -- edits: what is removed, found 0, undecided atoms stay
+    -- edits: what is removed, a list that goes on after a refusal, found 0, undecided atoms stay
     ∷ example (lines (onS (RemoveChain 0 0 ∷ RemoveChain 0 0 ∷ []))) (0 ∷ 1 ∷ 2 ∷ 5 ∷ 0 ∷ 0 ∷ [])
+    ∷ example (lines (onS (RemoveChain 0 1 ∷ RemoveChain 0 0 ∷ []))) (5 ∷ 0 ∷ 0 ∷ 0 ∷ 1 ∷ 2 ∷ [])
+    ∷ example (storeAfter S (RemoveChain 0 1 ∷ RemoveChain 0 0 ∷ [])) oneModel
     ∷ example (lines (onS (RemoveChainById 0 (bytes "a") ∷ RemoveChainById 0 (bytes "A") ∷ []))) (0 ∷ 0 ∷ 0 ∷ 0 ∷ 1 ∷ 2 ∷ [])
     ∷ example (lines (onS (RemoveAtomBySerialNumber 0 0 0 0 0 ∷ []))) (0 ∷ 1 ∷ 1 ∷ [])
     ∷ example (lines (onS (RemoveResidueById 0 0 7 (record { flag = 2; text = [] }) ∷ RemoveResidueById 0 9 7 (record { flag = 2; text = [] }) ∷ []))) (6 ∷ 0 ∷ 0 ∷ 5 ∷ 0 ∷ 0 ∷ [])
