@@ -113,6 +113,10 @@ uint64_t jubrelti_check(const uint64_t *store, size_t length);
 /* Sets every word to 0, an empty structure. Gives 0 or 1. */
 uint64_t jubrelti_open(uint64_t *store, size_t length);
 
+/* Copies the structure of a store into other words, whatever they hold: so it gets room for more records. The two may not overlap.
+   Gives 1 or 2 by the store that is copied, then 1 by the length of the other or 8 where its room is too small. */
+uint64_t jubrelti_copy(const uint64_t *from, size_t from_length, uint64_t *to, size_t to_length);
+
 /* ---- searches */
 
 /* Writes five record numbers for each atom where the tree isn't false, in hierarchy order: model, chain, residue, conformer, atom.

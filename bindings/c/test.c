@@ -5,9 +5,10 @@
 #include <stdlib.h>
 #include <string.h>
 
-enum { LENGTH = 6 * 12 + 1, OUT = 6 * 5 };
+enum { LENGTH = 6 * 12 + 1, LONGER = 12 * 12 + 1, OUT = 6 * 5 };
 
 static uint64_t store[LENGTH];
+static uint64_t longer[LONGER];
 static uint64_t out[OUT];
 
 static void expect(const char *what, uint64_t is, uint64_t should) {
@@ -83,6 +84,14 @@ int main(void) {
     expect("look up serial 2", at.found, 1);
     expect("its record", at.atom, 5);
     expect("serial 9 isn't there", jubrelti_binary_find_atom(store, LENGTH, 9, 0, bytes(""), 0).found, 0);
+
+    memset(longer, 0xff, sizeof longer);
+    expect("what was never opened can't be copied", jubrelti_copy(longer, LONGER, store, LENGTH), JUBRELTI_BROKEN_LAYOUT);
+    expect("no words can't take a copy", jubrelti_copy(store, LENGTH, longer, 0), JUBRELTI_BAD_LENGTH);
+    expect("copy into a longer store", jubrelti_copy(store, LENGTH, longer, LONGER), JUBRELTI_DONE);
+    expect("its records end where they did", longer[LONGER - 1], store[LENGTH - 1]);
+    expect("a record more has room", jubrelti_add_model(longer, LONGER, 2).result, JUBRELTI_DONE);
+    expect("too much for a copy back", jubrelti_copy(longer, LONGER, store, LENGTH), JUBRELTI_NO_CAPACITY);
 
     JubreltiEdit edited = jubrelti_remove_atoms_by(store, LENGTH, 0, not_nitrogen, 6);
     expect("remove what is known not to be nitrogen", edited.removed, 0);

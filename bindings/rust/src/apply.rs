@@ -1,6 +1,6 @@
 // Lists of edits in one call (docs/FORMATS.md, "List of edits"). Safety of the call: see store.rs.
 use crate::edits::numbers;
-use crate::{ffi, Edited, Error, NewAtom, Search, Store};
+use crate::{ffi, Edited, Error, NewAtom, Search, Store, Words};
 use std::fmt;
 
 #[repr(C)]
@@ -183,9 +183,28 @@ impl Edits {
     }
 }
 
-impl<W: AsRef<[u64]> + AsMut<[u64]>> Store<W> {
+impl<W: Words> Store<W> {
     /// Makes the edits in their order and gives the answer of each; a refused one changes nothing, and the next follows.
+    ///
+    /// Where one of them has no room in a store that can grow, all of them are made on a longer one.
     pub fn apply(&mut self, edits: &Edits) -> Result<Vec<Result<Edited, Error>>, ListError> {
+        if !W::GROWS {
+            return self.apply_once(edits);
+        }
+        loop {
+            let before = self.words().to_vec();
+            let answers = self.apply_once(edits)?;
+            if !answers.contains(&Err(Error::NoCapacity)) {
+                return Ok(answers);
+            }
+            match W::longer(&before) {
+                Some(longer) => self.words = longer,
+                None => return Ok(answers),
+            }
+        }
+    }
+
+    fn apply_once(&mut self, edits: &Edits) -> Result<Vec<Result<Edited, Error>>, ListError> {
         let words = self.words_mut();
         let list = &edits.words;
         let mut out = vec![0; edits.calls * 3];

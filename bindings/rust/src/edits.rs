@@ -1,6 +1,6 @@
 // The sixteen edits. Safety of the calls: see store.rs.
 use crate::store::optional;
-use crate::{ffi, Element, Error, Search, Store};
+use crate::{ffi, Element, Error, Search, Store, Words};
 
 /// What an accepted edit did.
 #[derive(Clone, Copy, Debug, PartialEq, Eq)]
@@ -48,12 +48,18 @@ pub(crate) fn numbers<const N: usize>(position: [usize; N]) -> [u64; N] {
 }
 
 /// The edits. A position is its indexes from 0, from the model down: `[model, chain, residue, conformer, atom]`.
-impl<W: AsRef<[u64]> + AsMut<[u64]>> Store<W> {
-    fn edit(&mut self, call: impl FnOnce(ffi::Words, usize) -> ffi::Edit) -> Result<Edited, Error> {
-        let words = self.words_mut();
-        let answer = call(words.as_mut_ptr(), words.len());
-        Error::check(answer.result)?;
-        Ok(Edited { found: answer.found == 1, removed: answer.removed as usize })
+impl<W: Words> Store<W> {
+    // A refusal has changed nothing, so what has no room is tried again on a longer copy.
+    fn edit(&mut self, call: impl Fn(ffi::Words, usize) -> ffi::Edit) -> Result<Edited, Error> {
+        loop {
+            let words = self.words_mut();
+            let answer = call(words.as_mut_ptr(), words.len());
+            match Error::check(answer.result) {
+                Ok(()) => return Ok(Edited { found: answer.found == 1, removed: answer.removed as usize }),
+                Err(Error::NoCapacity) => self.words = W::longer(self.words()).ok_or(Error::NoCapacity)?,
+                Err(refusal) => return Err(refusal),
+            }
+        }
     }
 
     /// Adds a model after the others.

@@ -82,7 +82,9 @@ impl fmt::Display for Error {
                  ASCII characters, and at least one except for an atom name"
             }
             Error::BadValue => "a coordinate, the occupancy or the B-factor is infinite or not a number; give a finite one",
-            Error::NoCapacity => "the store has no room for the records needed; open one with more records",
+            Error::NoCapacity => {
+                "the store has no room for the records needed; lend it more words, or let it own them and grow, up to 100,000 records"
+            }
             Error::JoinWithItself => "both positions of the join are the same; give two different ones",
             Error::ShortOutput => "the output has no room for all hits; lend five words for each",
             Error::BadFile => "the file isn't a store, a tree and the tree's start, or is over 65,536 bytes; write it so",

@@ -22,6 +22,7 @@ pub struct Lookup {
 }
 
 // Floats and the charge by their bits.
+#[derive(Clone, Copy)]
 #[repr(C)]
 pub struct NewAtom {
     pub serial: u64,
@@ -42,6 +43,7 @@ pub type Bytes = *const u8;
 extern "C" {
     pub fn jubrelti_check(store: Shared, n: usize) -> u64;
     pub fn jubrelti_open(store: Words, n: usize) -> u64;
+    pub fn jubrelti_copy(from: Shared, n: usize, to: Words, m: usize) -> u64;
     pub fn jubrelti_find(store: Shared, n: usize, tree: Shared, t: usize, out: Words, o: usize) -> Find;
     pub fn jubrelti_binary_find_atom(store: Shared, n: usize, serial: u64, flag: u64, location: Bytes, l: usize) -> Lookup;
     pub fn jubrelti_add_model(store: Words, n: usize, serial: u64) -> Edit;

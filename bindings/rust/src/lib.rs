@@ -2,7 +2,7 @@
 //!
 //! The store and its calls are a port of the `structs` module of [pdbtbx](https://crates.io/crates/pdbtbx) 0.12.0 in which each
 //! function is proved to equal its definition. These bindings are a thin layer over its C interface: they turn Rust values
-//! into words and back, and decide nothing themselves.
+//! into words and back, let a store that owns its words grow, and decide nothing else.
 //!
 //! ```
 //! use jubrelti::*;
@@ -44,4 +44,4 @@ pub use elements::Element;
 pub use error::Error;
 pub use hierarchy::{Atom, Chain, Conformer, Hit, Hits, Model, Residue};
 pub use search::{Ops, Search, Term};
-pub use store::{Store, MAX_RECORDS};
+pub use store::{Store, Words, MAX_RECORDS};

@@ -9,16 +9,69 @@ pub(crate) const RECORD: usize = 12;
 /// The most records that a store can hold.
 pub const MAX_RECORDS: usize = 100_000;
 
+/// Words in which a structure can be edited.
+pub trait Words: AsRef<[u64]> + AsMut<[u64]> + Sized {
+    /// Whether an edit that needs more records than the words have room for gets longer ones.
+    const GROWS: bool = false;
+
+    /// A copy of a store with room for more records, if there can be one.
+    #[doc(hidden)]
+    fn longer(_store: &[u64]) -> Option<Self> {
+        None
+    }
+}
+
+impl<T: AsRef<[u64]> + AsMut<[u64]> + ?Sized> Words for &mut T {}
+impl<const N: usize> Words for [u64; N] {}
+impl Words for Box<[u64]> {}
+
+/// These grow: the room is doubled, up to [MAX_RECORDS].
+impl Words for Vec<u64> {
+    const GROWS: bool = true;
+
+    fn longer(store: &[u64]) -> Option<Self> {
+        let room = (store.len() - 1) / RECORD;
+        let more = (room * 2).clamp(1, MAX_RECORDS);
+        if more == room {
+            return None;
+        }
+        let mut words = vec![0; more * RECORD + 1];
+        copy(store, &mut words).ok()?;
+        Some(words)
+    }
+}
+
+fn copy(from: &[u64], to: &mut [u64]) -> Result<(), Error> {
+    Error::check(unsafe { ffi::jubrelti_copy(from.as_ptr(), from.len(), to.as_mut_ptr(), to.len()) })
+}
+
 /// A structure in a slice of words: models, their chains, residues, conformers and atoms.
 ///
-/// `Store` owns its words. `Store<&mut [u64]>` borrows them, and `Store<&[u64]>` can only be searched.
+/// `Store` owns its words, and grows where an edit needs more records than it has room for. `Store<&mut [u64]>` borrows them and stays as
+/// long as it is, and `Store<&[u64]>` can only be searched.
+///
+/// ```
+/// use jubrelti::*;
+///
+/// # fn main() -> Result<(), Error> {
+/// let mut owned = Store::with_records(1)?;
+/// owned.add_model(1)?;
+/// owned.add_model(2)?; // there is room for two now
+///
+/// let mut words = [0; 13];
+/// let mut borrowed = Store::open(&mut words[..])?;
+/// borrowed.add_model(1)?;
+/// assert_eq!(borrowed.add_model(2), Err(Error::NoCapacity));
+/// # Ok(())
+/// # }
+/// ```
 #[derive(Clone, Debug)]
 pub struct Store<W = Vec<u64>> {
-    words: W,
+    pub(crate) words: W,
 }
 
 impl Store {
-    /// An empty structure with room for `records` models, chains, residues, conformers and atoms together.
+    /// An empty structure with room for `records` models, chains, residues, conformers and atoms together, before it grows.
     pub fn with_records(records: usize) -> Result<Self, Error> {
         if records > MAX_RECORDS {
             return Err(Error::BadLength);
@@ -27,7 +80,7 @@ impl Store {
     }
 }
 
-impl<W: AsRef<[u64]> + AsMut<[u64]>> Store<W> {
+impl<W: Words> Store<W> {
     /// An empty structure in the given words, which are all set to 0. They need 12 for each record and one more.
     pub fn open(words: W) -> Result<Self, Error> {
         let mut store = Store { words };
@@ -53,6 +106,12 @@ impl<W: AsRef<[u64]>> Store<W> {
     /// The words, laid out as `docs/FORMATS.md` says.
     pub fn words(&self) -> &[u64] {
         self.words.as_ref()
+    }
+
+    /// The same structure in the given words, whatever they hold. They may have room for more records, or for fewer.
+    pub fn copy_into<V: Words>(&self, mut words: V) -> Result<Store<V>, Error> {
+        copy(self.words(), words.as_mut())?;
+        Ok(Store { words })
     }
 
     /// The atoms where the search isn't false.

@@ -42,12 +42,28 @@ fn edits() {
     assert_eq!(add(NewAtom { name: "C\t\u{7f}", ..atom }, "A", None, "GLY", None), Error::BadIdentifier);
     assert_eq!(add(NewAtom { x: f64::NAN, ..atom }, "A", None, "GLY", None), Error::BadValue);
     assert_eq!(add(NewAtom { occupancy: f64::INFINITY, ..atom }, "A", None, "GLY", None), Error::BadValue);
-    assert_eq!(add(atom, "A", None, "GLY", None), Error::NoCapacity);
-    assert_eq!(refused(|s| s.add_model(2)), Error::NoCapacity);
     assert_eq!(refused(|s| s.add_atom(1, atom, "A", (1, None), ("GLY", None))), Error::NoPosition);
     assert_eq!(refused(|s| s.remove_atom([0, 0, 0, 0, 1])), Error::NoPosition);
     assert_eq!(refused(|s| s.remove_chain([usize::MAX, 0])), Error::NoPosition);
     assert_eq!(refused(|s| s.join_conformers([0; 4], [0; 4])), Error::JoinWithItself);
+}
+
+#[test]
+fn room() {
+    let mut words = one_atom().words().to_vec();
+    let before = words.clone();
+    let mut lent = Store::from_words(&mut words).unwrap();
+    assert_eq!(lent.add_model(2), Err(Error::NoCapacity));
+    assert_eq!(lent.add_atom(0, NewAtom::default(), "A", (1, None), ("GLY", None)), Err(Error::NoCapacity));
+    assert_eq!(lent.words(), before);
+
+    // 100,000 models, the most that a store can hold, and each record of kind 1.
+    let mut words = vec![0; 1_200_001];
+    words.iter_mut().step_by(12).for_each(|word| *word = 1);
+    words[1_200_000] = 1_200_000;
+    let mut full = Store::from_words(words).unwrap();
+    assert_eq!(full.add_model(2), Err(Error::NoCapacity));
+    assert_eq!(full.apply(Edits::new().remove_empty(99_999).add_model(2)).unwrap()[1], Err(Error::NoCapacity));
 }
 
 #[test]

@@ -9,6 +9,7 @@ ghost use Rattle.machine.specs.Edit.{storeStep};
 ghost use Rattle.machine.specs.Lookup.{lookupRun};
 ghost use Rattle.additions.specs.Add.{given, optionalOf};
 ghost use Rattle.answers.specs.Fields.{editFields, findFields, lookupFields};
+ghost use Rattle.copies.specs.Copy.{copyRun};
 ghost use Rattle.edits.specs.Apply.{appliedNumbers, ran, applyRun};
 ghost use Rattle.exports.specs.Numbers.{resultNumber, applyFields};
 use additions::NewAtom;
@@ -36,6 +37,14 @@ pub extern "C" fn jubrelti_open(store: &mut [u64]) -> u64
 {
     let opened = structs::pdb::open(store);
     answers::of_opened(opened)
+}
+
+#[no_mangle]
+pub extern "C" fn jubrelti_copy(from: &[u64], to: &mut [u64]) -> u64
+    ensures { λ r. ⌜ ((r ∷ []), now (to .exit)) ≡ copyRun (now (from .entry)) (now (to .entry)) ⌝ }
+{
+    let copied = copies::copy(from, to);
+    answers::of_opened(copied)
 }
 
 #[no_mangle]
