@@ -1,19 +1,13 @@
 // Lists of additions into an opened store as one call, and the crate's `add_atom`, in one run: time per addition at four sizes.
-#[path = "../oracle/list.rs"]
-mod list;
-#[allow(dead_code)]
-#[path = "../oracle/port.rs"]
-mod port;
-#[allow(dead_code)]
-mod store;
-mod structure;
+use super::port::{Call, NewAtom};
+use super::store::{self, AtomAt};
+use super::{list, port, structure};
 use pdbtbx::Model;
-use port::{Call, NewAtom, Optional};
 use std::hint::black_box;
 
 // In file order, or with the chains taken in turn: the worst order, in which no addition goes where the last one went.
-fn atoms(n: usize, in_turn: bool) -> Vec<store::AtomAt> {
-    let mut atoms = store::atoms();
+fn atoms(n: usize, in_turn: bool) -> Vec<AtomAt> {
+    let mut atoms = store::atoms(store::RESIDUES);
     if in_turn {
         let chain = atoms.len() / store::CHAINS as usize;
         atoms.sort_by_key(|a| ((a.serial as usize - 1) % chain, a.serial));
@@ -22,31 +16,19 @@ fn atoms(n: usize, in_turn: bool) -> Vec<store::AtomAt> {
     atoms
 }
 
-fn call(a: &store::AtomAt) -> Call {
-    let none = || Optional { flag: 0, text: Vec::new() };
-    Call::AddAtom {
-        model: 0,
-        chain: a.chain.as_bytes().to_vec(),
-        residue: a.residue,
-        code: none(),
-        conformer: a.conformer.into(),
-        location: none(),
-        name: a.name.into(),
-        values: NewAtom {
-            serial: a.serial,
-            x: 0,
-            y: 0,
-            z: 0,
-            occupancy: 1f64.to_bits(),
-            b_factor: a.b_factor.to_bits(),
-            element: a.element,
-            charge: 0,
-            hetero: a.hetero as u64,
-        },
-    }
+pub fn call(a: &AtomAt) -> Call {
+    let values = NewAtom {
+        serial: a.serial,
+        occupancy: 1f64.to_bits(),
+        b_factor: a.b_factor.to_bits(),
+        element: a.element,
+        hetero: a.hetero as u64,
+        ..NewAtom::default()
+    };
+    Call::add_atom(0, &a.chain, a.residue, a.conformer, a.name, values)
 }
 
-fn main() {
+pub fn table() {
     println!("ns per addition{:27} port   crate  port/crate", "");
     for (order, in_turn) in [("file order", false), ("chains in turn", true)] {
         for n in [10_000, 20_000, 40_000, 80_000] {
@@ -54,17 +36,22 @@ fn main() {
             let words: Vec<u64> = std::iter::once(Call::AddModel(1)).chain(atoms.iter().map(call)).flat_map(|c| list::words(&c)).collect();
             let runs = if n > 20_000 { 1 } else { 2 };
             let mut out = vec![0; (n + 1) * 3];
-            let port = store::least_on(runs, || vec![0u64; store::RECORDS * 12 + 1], |s| {
-                let answer = port::apply(s, &words, &mut out);
-                assert_eq!((answer.result, answer.calls), (0, n as u64 + 1));
-            });
+            let opened = vec![0u64; store::records(store::RESIDUES) * 12 + 1];
+            let port = store::least_on(
+                runs,
+                || opened.clone(),
+                |s| {
+                    let answer = port::apply(s, &words, &mut out);
+                    assert_eq!((answer.result, answer.calls), (0, n as u64 + 1));
+                },
+            );
             assert!(out.chunks(3).all(|a| a == [0, 1, 0]));
             let of_crate = store::least_on(
                 runs,
-                || (Model::new(1), atoms.iter().map(|a| structure::atom(a.serial, a.name, a.b_factor, a.element, a.hetero)).collect::<Vec<_>>()),
+                || (Model::new(1), atoms.iter().map(structure::atom).collect::<Vec<_>>()),
                 |(model, new)| {
                     for (atom, a) in new.drain(..).zip(&atoms) {
-                        model.add_atom(atom, &a.chain, (a.residue as isize, None), (a.conformer, None));
+                        structure::add(model, atom, a);
                     }
                     black_box(&model);
                 },

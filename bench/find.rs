@@ -1,65 +1,85 @@
-// Find on the largest store, the port and the crate in one run, for twelve trees. The port's times include its layout check.
-mod nodes;
-#[allow(dead_code)]
-#[path = "../oracle/port.rs"]
-mod port;
-#[allow(dead_code)]
-mod store;
-mod structure;
-use pdbtbx::{Element, Search, Term};
+// Find on the largest store, the port and the crate in one run, for twelve trees; gemmi and mmdb2 for those that their selections can
+// say. The port's times include its layout check and writing the hits, gemmi's and mmdb2's reading the selection; mmdb2 makes an index of its
+// hits, the crate and gemmi only pass them.
+use super::others::LIBRARIES;
+use super::{check, nodes, port, store, structure};
+use pdbtbx::{Element, Search, Term, PDB};
 use std::hint::black_box;
+
+pub struct Tree {
+    pub name: &'static str,
+    pub search: Search,
+    // As gemmi's and as mmdb2's selection.
+    said: [Option<&'static str>; 2],
+}
 
 fn or_chain(terms: usize) -> Search {
     (1..terms).fold(Search::Single(Term::AtomSerialNumber(500)), |s, i| s | Term::AtomSerialNumber(i * 1_000 + 500))
 }
 
-fn trees() -> Vec<(&'static str, Search)> {
+const BACKBONE: &str = "/*/*/(ALA,ARG,ASH,ASN,ASP,ASX,CYS,CYX,GLH,GLN,GLU,GLY,HID,HIE,HIM,HIP,HIS,ILE,LEU,LYN,LYS,MET,PHE,PRO,SER,THR,\
+    TRP,TYR,VAL,SEC,PYL)/N,CA,C,O,H,H1,H2,H3,HA,HA2,HA3";
+
+pub fn trees() -> Vec<Tree> {
     let chain = || Term::ChainId("B".into());
     let residues = || Term::ResidueSerialNumberRange(100, 199);
     let b_range = || Term::BFactorRange(20.0, 30.0);
+    let both = |cid| [Some(cid); 2];
+    let neither = [None; 2];
+    let tree = |name, search, said| Tree { name, search, said };
     vec![
-        ("known true", Search::Known(true)),
-        ("ChainId", Search::Single(chain())),
-        ("residue range", Search::Single(residues())),
-        ("AtomName", Search::Single(Term::AtomName("CA".into()))),
-        ("ChainId & AtomName", chain() & Term::AtomName("CA".into())),
-        ("Backbone", Search::Single(Term::Backbone)),
-        ("B range", Search::Single(b_range())),
-        ("!ConformerName", !Term::ConformerName("HOH".into())),
-        ("ChainId & (residues | B range) & !Hetero", chain() & (residues() | b_range()) & !Term::Hetero),
-        ("!(Element ^ Backbone)", !(Term::Element(Element::C) ^ Term::Backbone)),
-        ("16 or-ed serials, 31 nodes", or_chain(16)),
-        ("64 or-ed serials, 127 nodes", or_chain(64)),
+        tree("known true", Search::Known(true), both("/*/*/*/*")),
+        tree("ChainId", Search::Single(chain()), both("/*/B")),
+        tree("residue range", Search::Single(residues()), both("/*/*/100-199")),
+        tree("AtomName", Search::Single(Term::AtomName("CA".into())), both("/*/*/*/CA")),
+        tree("ChainId & AtomName", chain() & Term::AtomName("CA".into()), both("/*/B/*/CA")),
+        tree("Backbone", Search::Single(Term::Backbone), both(BACKBONE)),
+        // The B-factors are whole numbers; gemmi's bounds aren't part of the range.
+        tree("B range", Search::Single(b_range()), [Some("//*//;b>19;b<31"), None]),
+        tree("!ConformerName", !Term::ConformerName("HOH".into()), both("/*/*/(!HOH)")),
+        tree("ChainId & (residues | B range) & !Hetero", chain() & (residues() | b_range()) & !Term::Hetero, neither),
+        tree("!(Element ^ Backbone)", !(Term::Element(Element::C) ^ Term::Backbone), neither),
+        tree("16 or-ed serials, 31 nodes", or_chain(16), neither),
+        tree("64 or-ed serials, 127 nodes", or_chain(64), neither),
     ]
 }
 
-fn main() {
-    let words = store::words(0);
-    let pdb = structure::pdb();
-    let atoms = pdb.total_atom_count();
-    let mut out = vec![0u64; atoms * 5];
-    let check = store::least(50, || {
-        black_box(port::check(black_box(&words)));
-    });
-    println!("{} records, {} atoms; layout check {:.2} ns per atom", store::RECORDS, atoms, check / atoms as f64);
-    println!("ns per atom{:33} hits    port    walk   crate  port/crate", "");
-    for (name, search) in trees() {
-        let tree = nodes::nodes(&search);
-        let runs = if tree.len() > 60 { 5 } else { 30 };
-        let mut hits = 0;
-        let ours = store::least(runs, || hits = port::find(black_box(&words), &tree, &mut out).hits);
-        let mut theirs_hits = 0;
-        let theirs = store::least(runs, || theirs_hits = black_box(&pdb).find(search.clone()).map(black_box).count());
-        assert_eq!(hits as usize, theirs_hits);
-        let n = atoms as f64;
-        println!(
-            "{:42} {:6} {:7.2} {:7.2} {:7.2} {:11.3}",
-            name,
-            hits,
-            ours / n,
-            (ours - check) / n,
-            theirs / n,
-            ours / theirs
-        );
+// The least times of the port and the crate in nanoseconds, and the hits, on which they agree.
+pub fn times(words: &[u64], pdb: &PDB, search: &Search, runs: usize) -> (f64, f64, usize) {
+    let tree = nodes::nodes(search);
+    let mut out = vec![0u64; pdb.total_atom_count() * 5];
+    let (mut hits, mut hits_of_crate) = (0, 0);
+    let port = store::least(runs, || hits = port::find(black_box(words), &tree, &mut out).hits as usize);
+    let of_crate = store::least(runs, || hits_of_crate = black_box(pdb).find(search.clone()).map(black_box).count());
+    assert_eq!(hits, hits_of_crate);
+    (port, of_crate, hits)
+}
+
+pub fn table() {
+    let words = store::words(store::RESIDUES, 0);
+    let pdb = structure::pdb(store::RESIDUES);
+    let atoms = store::atoms(store::RESIDUES);
+    let n = atoms.len() as f64;
+    LIBRARIES.iter().for_each(|l| l.build(&atoms));
+    let check = check::time(&words, 50);
+    println!("{} records, {} atoms; layout check {:.2} ns per atom", store::records(store::RESIDUES), atoms.len(), check / n);
+    for absent in LIBRARIES.iter().filter(|l| !l.is_here()) {
+        println!("{} isn't installed and is left out", absent.name);
+    }
+    println!("ns per atom{:33} hits    port    walk   crate  port/crate   gemmi   mmdb2", "");
+    for Tree { name, search, said } in trees() {
+        let runs = if name.contains("or-ed") { 5 } else { 30 };
+        let (port, of_crate, hits) = times(&words, &pdb, &search, runs);
+        print!("{:42} {:6} {:7.2} {:7.2} {:7.2} {:11.3}", name, hits, port / n, (port - check) / n, of_crate / n, port / of_crate);
+        for (library, cid) in LIBRARIES.iter().zip(said) {
+            match cid.filter(|_| library.is_here()) {
+                Some(cid) => {
+                    let time = store::least(10, || assert_eq!(library.select(black_box(cid)), Some(hits)));
+                    print!(" {:7.2}", time / n);
+                }
+                None => print!(" {:>7}", "-"),
+            }
+        }
+        println!();
     }
 }

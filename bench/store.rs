@@ -1,8 +1,11 @@
-// The largest structure of the lab's shape that fits a store: 4 chains of 2,000 residues of 10 atoms, 96,005 records.
+// Structures of the lab's shape: 4 chains of residues of 10 atoms. The largest that fits a store has 2,000 residues in a chain.
 pub const CHAINS: u64 = 4;
 pub const RESIDUES: u64 = 2_000;
 pub const ATOMS: u64 = 10;
-pub const RECORDS: usize = (1 + CHAINS + CHAINS * RESIDUES * (2 + ATOMS)) as usize;
+
+pub fn records(residues: u64) -> usize {
+    (1 + CHAINS + CHAINS * residues * (2 + ATOMS)) as usize
+}
 
 pub const RESIDUE_NAMES: [&str; 8] = ["ALA", "GLY", "LEU", "SER", "HOH", "VAL", "LYS", "PHE"];
 pub const ATOM_NAMES: [&str; 10] = ["N", "CA", "C", "O", "CB", "CG", "CD1", "CD2", "H", "HA"];
@@ -14,6 +17,7 @@ pub fn pack(text: &str) -> u64 {
     u64::from_be_bytes(bytes)
 }
 
+#[derive(Clone)]
 pub struct AtomAt {
     pub serial: u64,
     pub chain: String,
@@ -26,10 +30,10 @@ pub struct AtomAt {
 }
 
 // Every atom, in hierarchy order.
-pub fn atoms() -> Vec<AtomAt> {
+pub fn atoms(residues: u64) -> Vec<AtomAt> {
     let mut all = Vec::new();
     for c in 0..CHAINS {
-        for r in 0..RESIDUES {
+        for r in 0..residues {
             for a in 0..ATOMS {
                 let serial = all.len() as u64 + 1;
                 all.push(AtomAt {
@@ -54,11 +58,12 @@ fn record(words: &mut Vec<u64>, fields: &[u64]) {
 }
 
 // Its words, with no room to spare but for `spare` records.
-pub fn words(spare: usize) -> Vec<u64> {
-    let mut w = Vec::with_capacity((RECORDS + spare) * 12 + 1);
+pub fn words(residues: u64, spare: usize) -> Vec<u64> {
+    let room = (records(residues) + spare) * 12;
+    let mut w = Vec::with_capacity(room + 1);
     record(&mut w, &[1, 1]);
     let (mut chain, mut residue) = (String::new(), 0);
-    for a in atoms() {
+    for a in atoms(residues) {
         if a.chain != chain {
             record(&mut w, &[2, pack(&a.chain)]);
             chain = a.chain.clone();
@@ -73,8 +78,8 @@ pub fn words(spare: usize) -> Vec<u64> {
         record(&mut w, &[5, a.serial, pack(a.name), 0, 0, 0, 1f64.to_bits(), b, a.element, 0, a.hetero as u64]);
     }
     let end = w.len() as u64;
-    assert_eq!(end as usize, RECORDS * 12);
-    w.resize((RECORDS + spare) * 12, 0);
+    assert_eq!(end as usize, records(residues) * 12);
+    w.resize(room, 0);
     w.push(end);
     w
 }

@@ -1,23 +1,29 @@
 // The benchmarks' structure in the crate.
-use super::store;
+use super::store::{self, AtomAt};
 use pdbtbx::{Atom, Model, PDB};
 
-pub fn atom(serial: u64, name: &str, b_factor: f64, element: u64, hetero: bool) -> Atom {
-    let symbol = match element {
+pub fn symbol(element: u64) -> &'static str {
+    match element {
         1 => "H",
         6 => "C",
         7 => "N",
         8 => "O",
         other => unimplemented!("element {other}"),
-    };
-    Atom::new(hetero, serial as usize, name, 0.0, 0.0, 0.0, 1.0, b_factor, symbol, 0).unwrap()
+    }
 }
 
-pub fn pdb() -> PDB {
+pub fn atom(a: &AtomAt) -> Atom {
+    Atom::new(a.hetero, a.serial as usize, a.name, 0.0, 0.0, 0.0, 1.0, a.b_factor, symbol(a.element), 0).unwrap()
+}
+
+pub fn add(model: &mut Model, atom: Atom, a: &AtomAt) {
+    model.add_atom(atom, &a.chain, (a.residue as isize, None), (a.conformer, None));
+}
+
+pub fn pdb(residues: u64) -> PDB {
     let mut model = Model::new(1);
-    for a in store::atoms() {
-        let new = atom(a.serial, a.name, a.b_factor, a.element, a.hetero);
-        model.add_atom(new, &a.chain, (a.residue as isize, None), (a.conformer, None));
+    for a in store::atoms(residues) {
+        add(&mut model, atom(&a), &a);
     }
     let mut pdb = PDB::new();
     pdb.add_model(model);

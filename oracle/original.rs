@@ -23,16 +23,37 @@ fn element(number: u64) -> Element {
     Element::new(number as usize).unwrap()
 }
 
-// With no name at first, so that no element is guessed from it.
-fn atom(name: &[u8], v: &NewAtom) -> Atom {
+// Through `Atom::new`, for its own trimming. Where that guesses an element and none was given, the atom is made without a name and is
+// named afterwards.
+fn atom(name: &[u8], v: &NewAtom) -> Option<Atom> {
     let f = f64::from_bits;
-    let mut a = Atom::new(v.hetero == 1, v.serial as usize, "", f(v.x), f(v.y), f(v.z), f(v.occupancy), f(v.b_factor), "", 0).unwrap();
-    a.set_charge(v.charge as isize);
-    a.set_name(text(name).trim()).unwrap();
-    if v.element != 0 {
-        a.set_element(element(v.element));
+    let symbol = if v.element == 0 { "" } else { element(v.element).symbol() };
+    let (serial, charge) = (v.serial as usize, v.charge as isize);
+    let new = |name| Atom::new(v.hetero == 1, serial, name, f(v.x), f(v.y), f(v.z), f(v.occupancy), f(v.b_factor), symbol, charge);
+    let made = new(text(name))?;
+    if v.element != 0 || made.element().is_none() {
+        return Some(made);
     }
-    a
+    let mut unnamed = new("")?;
+    unnamed.set_name(made.name()).unwrap();
+    Some(unnamed)
+}
+
+// The refusal that the crate's own constructors, as `add_atom` calls them, give to an addition: 6 for a text, 7 for a float, else 0.
+pub fn refusal(call: &Call) -> u64 {
+    let Call::AddAtom { chain, code, conformer, location, name, values, .. } = call else {
+        return 0;
+    };
+    let zero = NewAtom { x: 0, y: 0, z: 0, occupancy: 0, b_factor: 0, ..*values };
+    let texts = Chain::new(text(chain).trim()).is_some()
+        && Residue::new(0, optional(code), None).is_some()
+        && Conformer::new(text(conformer), optional(location), None).is_some()
+        && atom(name, &zero).is_some();
+    match (texts, atom(name, values)) {
+        (false, _) => 6,
+        (true, None) => 7,
+        (true, Some(_)) => 0,
+    }
 }
 
 fn model<'a>(p: &'a mut PDB, i: u64) -> &'a mut Model {
@@ -56,7 +77,7 @@ pub fn edit(p: &mut PDB, call: &Call) -> bool {
     match call {
         Call::AddModel(serial) => p.add_model(Model::new(*serial as usize)),
         Call::AddAtom { model: i, chain, residue, code, conformer, location, name, values } => model(p, *i).add_atom(
-            atom(name, values),
+            atom(name, values).unwrap(),
             text(chain),
             (*residue as isize, optional(code)),
             (text(conformer), optional(location)),

@@ -31,7 +31,7 @@ pub struct Apply {
 
 // A new atom's numbers; floats and the charge by their bits.
 #[repr(C)]
-#[derive(Clone, Copy, Debug, PartialEq)]
+#[derive(Clone, Copy, Debug, Default, PartialEq)]
 pub struct NewAtom {
     pub serial: u64,
     pub x: u64,
@@ -131,6 +131,15 @@ pub enum Call {
     JoinChains([u64; 2], [u64; 2]),
     JoinResidues([u64; 3], [u64; 3]),
     JoinConformers([u64; 4], [u64; 4]),
+}
+
+impl Call {
+    // With no insertion code and no alternative location.
+    pub fn add_atom(model: u64, chain: &str, residue: u64, conformer: &str, name: &str, values: NewAtom) -> Call {
+        let none = || Optional { flag: 0, text: Vec::new() };
+        let (chain, conformer, name) = (chain.into(), conformer.into(), name.into());
+        Call::AddAtom { model, chain, residue, code: none(), conformer, location: none(), name, values }
+    }
 }
 
 pub fn edit(store: &mut [u64], call: &Call) -> Edit {

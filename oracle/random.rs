@@ -36,7 +36,7 @@ impl Random {
 
     // Mostly one of the first few.
     fn text(&mut self, of: &[&[u8]]) -> Vec<u8> {
-        let n = if self.one_in(6) { of.len() } else { 3 };
+        let n = if self.one_in(12) { of.len() } else { 3 };
         self.pick(&of[..n]).to_vec()
     }
 
@@ -81,30 +81,43 @@ impl Random {
 
     // An index of a list of n, or one beyond.
     fn index(&mut self, n: usize) -> u64 {
-        if n == 0 || self.one_in(12) { self.pick(&[n as u64, n as u64 + 1, u64::MAX]) } else { self.below(n as u64) }
+        if n == 0 || self.one_in(30) { self.pick(&[n as u64, n as u64 + 1, u64::MAX]) } else { self.below(n as u64) }
+    }
+
+    // The same, passing by most of the empty ones.
+    fn full<T>(&mut self, list: &[T], is_empty: fn(&T) -> bool) -> u64 {
+        let first = self.index(list.len());
+        (0..3).fold(first, |i, _| if list.get(i as usize).is_some_and(is_empty) { self.index(list.len()) } else { i })
     }
 
     // Five indexes from the model down, each mostly of something that is there.
     fn position(&mut self, m: &Machine) -> [u64; 5] {
         let mut p = [0; 5];
-        p[0] = self.index(m.len());
+        p[0] = self.full(m, |m| m.chains.is_empty());
         let chains = m.get(p[0] as usize).map_or(&[][..], |m| &m.chains);
-        p[1] = self.index(chains.len());
+        p[1] = self.full(chains, |c| c.residues.is_empty());
         let residues = chains.get(p[1] as usize).map_or(&[][..], |c| &c.residues);
-        p[2] = self.index(residues.len());
+        p[2] = self.full(residues, |r| r.conformers.is_empty());
         let conformers = residues.get(p[2] as usize).map_or(&[][..], |r| &r.conformers);
-        p[3] = self.index(conformers.len());
+        p[3] = self.full(conformers, |f| f.atoms.is_empty());
         p[4] = self.index(conformers.get(p[3] as usize).map_or(0, |f| f.atoms.len()));
         p
     }
 
+    // Two positions of so many indexes, mostly not the same.
+    fn two<const N: usize>(&mut self, m: &Machine) -> [[u64; N]; 2] {
+        let mut draw = || self.position(m)[..N].try_into().unwrap();
+        let p = draw();
+        [p, (0..4).fold(p, |q, _| if q == p { draw() } else { q })]
+    }
+
     pub fn call(&mut self, m: &Machine) -> Call {
         let p = self.position(m);
-        let q = if self.one_in(6) { p } else { self.position(m) };
-        let part = |p: [u64; 5]| ([p[0], p[1]], [p[0], p[1], p[2]], [p[0], p[1], p[2], p[3]]);
-        let ((p2, p3, p4), (q2, q3, q4)) = (part(p), part(q));
-        match self.below(if m.is_empty() { 20 } else { 40 }) {
-            0 => Call::AddModel(self.small()),
+        let (p2, p3, p4) = ([p[0], p[1]], [p[0], p[1], p[2]], [p[0], p[1], p[2], p[3]]);
+        if m.is_empty() && !self.one_in(4) {
+            return Call::AddModel(self.small());
+        }
+        match self.below(40) {
             1 => Call::RemoveChain(p2),
             2 => Call::RemoveResidue(p3),
             3 => Call::RemoveConformer(p4),
@@ -115,11 +128,23 @@ impl Random {
             8 => Call::RemoveAtomBySerialNumber(p4, self.small()),
             9 => Call::RemoveAtomsBy(p[0], self.tree()),
             10 => Call::RemoveEmpty(p[0]),
-            11 => Call::JoinModels(p[0], q[0]),
-            12 => Call::JoinChains(p2, q2),
-            13 => Call::JoinResidues(p3, q3),
-            14 => Call::JoinConformers(p4, q4),
-            15..=19 => Call::AddModel(self.small()),
+            11 => {
+                let [[i], [j]] = self.two(m);
+                Call::JoinModels(i, j)
+            }
+            12 => {
+                let [p, q] = self.two(m);
+                Call::JoinChains(p, q)
+            }
+            13 => {
+                let [p, q] = self.two(m);
+                Call::JoinResidues(p, q)
+            }
+            14 => {
+                let [p, q] = self.two(m);
+                Call::JoinConformers(p, q)
+            }
+            0 | 15 | 16 => Call::AddModel(self.small()),
             _ => Call::AddAtom {
                 model: p[0],
                 chain: self.text(&CHAINS),

@@ -1,0 +1,70 @@
+// The port beside its judges: everything is compared after each call, and a disagreement stops the run and prints the call.
+use crate::judges::Judges;
+use crate::port::{self, Call, Edit, Find, Optional};
+use crate::{original, plain};
+
+#[derive(Default)]
+pub struct Counts {
+    edits: u64,
+    accepted: u64,
+    edits_by_crate: u64,
+    finds: u64,
+    finds_by_crate: u64,
+    lookups: u64,
+}
+
+impl Counts {
+    pub fn print(&self, name: &str) {
+        println!("{name}: no disagreement");
+        println!("  edits {}, accepted {}, of these by the crate {}", self.edits, self.accepted, self.edits_by_crate);
+        println!("  finds {}, accepted and by the crate {}; lookups {}", self.finds, self.finds_by_crate, self.lookups);
+    }
+}
+
+pub struct Sides {
+    pub store: Vec<u64>,
+    pub judges: Judges,
+}
+
+impl Sides {
+    pub fn open(mut store: Vec<u64>) -> Self {
+        assert_eq!(port::open(&mut store), 0);
+        let judges = Judges::new(store.len());
+        Sides { store, judges }
+    }
+
+    pub fn edit(&mut self, call: &Call, counts: &mut Counts) -> Edit {
+        let before = self.store.clone();
+        let ours = port::edit(&mut self.store, call);
+        let (answer, by_crate) = self.judges.edit(call);
+        assert_eq!(ours, answer, "answer of {call:?} on {before:?}");
+        assert_eq!(self.store, plain::lay_out(&self.judges.machine, before.len()), "words after {call:?} on {before:?}");
+        assert_eq!(port::check(&self.store), 0);
+        counts.edits += 1;
+        counts.accepted += (ours.result == 0) as u64;
+        counts.edits_by_crate += by_crate as u64;
+        ours
+    }
+
+    // With an output of so many words.
+    pub fn find(&self, tree: &[u64], room: usize, counts: &mut Counts) -> Find {
+        let mut ours = vec![7u64; room];
+        let mut by_plain = ours.clone();
+        let answer = port::find(&self.store, tree, &mut ours);
+        assert_eq!(answer, plain::find(&self.judges.machine, tree, &mut by_plain), "find {tree:?} on {:?}", self.store);
+        assert_eq!(ours, by_plain, "hits of {tree:?} on {:?}", self.store);
+        counts.finds += 1;
+        if let (Some(pdb), 0) = (&self.judges.pdb, answer.result) {
+            let hits = original::find(pdb, &plain::read_tree(tree).unwrap());
+            assert_eq!(hits.concat(), ours[..answer.hits as usize * 5], "the crate's hits of {tree:?} on {:?}", self.store);
+            counts.finds_by_crate += 1;
+        }
+        answer
+    }
+
+    pub fn lookup(&self, serial: u64, location: &Optional, counts: &mut Counts) {
+        let ours = port::binary_find_atom(&self.store, serial, location);
+        assert_eq!(ours, plain::lookup(&self.judges.machine, serial, location), "lookup {serial} {location:?} on {:?}", self.store);
+        counts.lookups += 1;
+    }
+}
