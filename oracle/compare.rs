@@ -53,6 +53,8 @@ fn list(r: &mut Random, counts: &mut Counts) -> u64 {
         sides.find(&tree, room, counts);
         sides.lookup(r.small(), &r.optional(), counts);
     }
+    let other = r.below(30 * 12);
+    sides.copy((0..other).map(|_| r.word()).collect());
     as_one(r, length, &calls, &answers, &sides.store)
 }
 

@@ -58,6 +58,7 @@ type Bytes = *const u8;
 extern "C" {
     fn jubrelti_check(store: Shared, n: usize) -> u64;
     fn jubrelti_open(store: Words, n: usize) -> u64;
+    fn jubrelti_copy(from: Shared, n: usize, to: Words, m: usize) -> u64;
     fn jubrelti_find(store: Shared, n: usize, tree: Shared, t: usize, out: Words, o: usize) -> Find;
     fn jubrelti_binary_find_atom(store: Shared, n: usize, serial: u64, flag: u64, location: Bytes, l: usize) -> Lookup;
     fn jubrelti_apply(store: Words, n: usize, list: Shared, l: usize, out: Words, o: usize) -> Apply;
@@ -98,6 +99,10 @@ pub fn check(store: &[u64]) -> u64 {
 
 pub fn open(store: &mut [u64]) -> u64 {
     unsafe { jubrelti_open(store.as_mut_ptr(), store.len()) }
+}
+
+pub fn copy(from: &[u64], to: &mut [u64]) -> u64 {
+    unsafe { jubrelti_copy(from.as_ptr(), from.len(), to.as_mut_ptr(), to.len()) }
 }
 
 pub fn find(store: &[u64], tree: &[u64], out: &mut [u64]) -> Find {

@@ -1,7 +1,6 @@
 // record SEED CALLS: random lists of calls with what they must answer and leave, for the program `replay`. The port has no part in it: the
 // crate judges where it can, and the plain reading of document 01 elsewhere.
-// Little-endian words, cases to the end; a case is the store's length, the numbers of words of the list, of the answers and of the records
-// afterwards, and those words.
+// Little-endian words, cases to the end; a case is the numbers of words of the list, of the answers and of the store afterwards, and those words.
 mod judges;
 mod list;
 #[allow(dead_code)]
@@ -31,9 +30,9 @@ fn case(r: &mut Random, calls: u64, counts: &mut Counts) -> Vec<u64> {
         words.extend(call);
         answers.extend([e.result, e.found, e.removed]);
     }
-    let records = plain::records(&judges.machine);
-    let header = [length, words.len() as u64, answers.len() as u64, records.len() as u64];
-    [&header[..], &words, &answers, &records].concat()
+    let store = plain::lay_out(&judges.machine, judges.length);
+    let header = [&words, &answers, &store].map(|part| part.len() as u64);
+    [&header[..], &words, &answers, &store].concat()
 }
 
 fn main() {

@@ -62,6 +62,18 @@ impl Sides {
         answer
     }
 
+    // Into words that hold anything.
+    pub fn copy(&self, mut words: Vec<u64>) {
+        let records = plain::records(&self.judges.machine);
+        let expected = match words.len() {
+            0 => (1, words.clone()),
+            n if n <= records.len() => (8, words.clone()),
+            n => (0, plain::lay_out(&self.judges.machine, n)),
+        };
+        let answer = port::copy(&self.store, &mut words);
+        assert_eq!((answer, words), expected, "copy of {:?}", self.store);
+    }
+
     pub fn lookup(&self, serial: u64, location: &Optional, counts: &mut Counts) {
         let ours = port::binary_find_atom(&self.store, serial, location);
         assert_eq!(ours, plain::lookup(&self.judges.machine, serial, location), "lookup {serial} {location:?} on {:?}", self.store);

@@ -34,7 +34,7 @@ fn little_endian(b: &[u8]) -> u64
 }
 
 // The first n words of the input.
-fn read_words(input: &[u8], n: usize, words: &mut [u64])
+pub fn read_words(input: &[u8], n: usize, words: &mut [u64])
     requires { ⌜ (n * 8 ≤ length (now input)) × (n ≤ length (now words)) ⌝ }
     ensures { λ _. ⌜ now (words .exit) ≡ over 0 (wordsIn n (now (input .entry))) (now (words .entry)) ⌝ }
 {
