@@ -21,7 +21,7 @@ use Rattle.laws.specs.Scan.{Ends}
 use Rattle.laws.specs.Places.{Around, Spot}
 use Rattle.seek.specs.Seek.{between, run}
 use Rattle.seek.specs.Below.{chunks-take, run-over, flat-root, flat-kinds}
-use Rattle.additions.specs.Add.{Key, marks, pickSpan, spotIn, keysOf, preparedOf, atomOf}
+use Rattle.additions.specs.Add.{Key, marks, pickSpan, spotIn, keysOf, preparedOf, atomOf, column}
 use Rattle.additions.specs.declared.Names as Names
 use Rattle.additions.specs.declared.NewAtom as Values
 
@@ -61,7 +61,7 @@ module _ {A : Type 0} (p : A → Bool) where
   map-suc n none = refl
   map-suc n (some x) = rw suc-add
 
-  pick-over : (w : Which) (b rest : List A) → All (λ x. p x ≡ false) b → pick w p (b ++ rest) ≡ Option·map (λ i. length b + i) (pick w p rest)
+  pub pick-over : (w : Which) (b rest : List A) → All (λ x. p x ≡ false) b → pick w p (b ++ rest) ≡ Option·map (λ i. length b + i) (pick w p rest)
   pick-over w [] rest h = map-zero (pick w p rest)
   pick-over w (x ∷ b) rest h =
       pick-pass w x (b ++ rest) (h .0) ∙ ap (Option·map suc) (pick-over w b rest (h .1)) ∙ map-suc (length b) (pick w p rest)
@@ -227,18 +227,18 @@ puts-atom : (h : ℕ) (a : Branch 0) → Puts h 0 (λ ts. ts ++ (a ∷ [])) [] (
 unfolding flat spotIn
 puts-atom h a = record { alone = refl; among = λ w from end ts order e. ins-end 0 w from end ts a order e }
 
+pub unmarked : (h : ℕ) (key : Key) (r : Words) → h < kind r → marks h key r ≡ false
+unmarked h key r l = rw (ne-eqb (kind r) h (λ e. omega arith))
+
 -- one level more
 module _ (h k : ℕ) (level : h + k ≡ 4) (low : 1 ≤ h) (key : Key) (p : Fields (suc k) → Bool) (new : Fields (suc k))
     (f : List (Branch k) → List (Branch k)) (keys : List Key) (col : List Words) (finds : (d : Fields (suc k)) → marks h key (words (suc k) d) ≡ p d)
     (puts : Puts (suc h) k f keys col) where
-  other : (r : Words) → h < kind r → marks h key r ≡ false
-  other r l = rw (ne-eqb (kind r) h (λ e. omega arith))
-
   abbrev into : List (Branch (suc k)) → List (Branch (suc k))
   into ts = upsert k (key .which) p new f ts
 
   level-among : (w : List ℕ) (from end : ℕ) (ts : List (Branch (suc k))) → from ≤ end → between from end w ≡ bind (flat (suc k)) ts
-      → (o : Option ℕ) → pick (key .which) (λ t. p (t .0)) ts ≡ o → Same h k level (marks h key) other p finds (key .which) ts o
+      → (o : Option ℕ) → pick (key .which) (λ t. p (t .0)) ts ≡ o → Same h k level (marks h key) (unmarked h key) p finds (key .which) ts o
       → Ins (suc k) ts (into ts) from (spotIn h (key ∷ keys) from end w .0) (drop (spotIn h (key ∷ keys) from end w .1) (words (suc k) new ∷ col))
   unfolding upsert spotIn flat
   level-among w from end ts order e none q s =
@@ -257,7 +257,7 @@ module _ (h k : ℕ) (level : h + k ≡ 4) (low : 1 ≤ h) (key : Key) (p : Fiel
   puts-level =
       record {
         alone = go (key .which);
-        among = λ w from end ts order e. level-among w from end ts order e _ refl (picked h k level (marks h key) other p finds (key .which) ts);
+        among = λ w from end ts order e. level-among w from end ts order e _ refl (picked h k level (marks h key) (unmarked h key) p finds (key .which) ts);
       }
     where
       go : (v : Which) → bind (flat (suc k)) (upsert k v p new f []) ≡ words (suc k) new ∷ col
@@ -269,15 +269,6 @@ module _ (h k : ℕ) (level : h + k ≡ 4) (low : 1 ≤ h) (key : Key) (p : Fiel
 and-right : (b : Bool) → b && true ≡ b
 and-right true = refl
 and-right false = refl
-
--- a new chain's, residue's, conformer's and atom's records
-abbrev pub column : Names.Names → ℕ → Values.NewAtom → List Words
-column n residue v =
-    words 3 (record { id = n .chain })
-    ∷ words 2 (record { serial = residue; code = n .code })
-    ∷ words 1 (record { name = n .conformer; location = n .location })
-    ∷ words 0 (atomOf v (n .name))
-    ∷ []
 
 -- the three levels below a model
 pub puts-chains : (a : NewAtom) (n : Names.Names) (v : Values.NewAtom) → newAtom a (preparedOf n) ≡ atomOf v (n .name)

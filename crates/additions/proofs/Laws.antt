@@ -15,7 +15,7 @@ use Rattle.machine.specs.Lists.{orElse, bind, andThen}
 use Rattle.machine.specs.Answer.{ok, refused, editedNumbers}
 use Rattle.machine.specs.Text.{Optional, chainId, insertionCode, conformerName, alternativeLocation, atomName, optional, matchesOptional}
 use Rattle.machine.specs.Record.{Words, words, finite, goodValues}
-use Rattle.machine.specs.Store.{Branch, Machine, flat, records, stored, capacity, laid, layOut, chunks}
+use Rattle.machine.specs.Store.{Branch, Machine, flat, records, stored, capacity, laid, layOut, chunks, recordsOf}
 use Rattle.machine.specs.Edit.{NewAtom, Which, first, last, pick, accept, prepare, intoChains, replaceAt, fits, addModel, addAtom, relaid}
 use Rattle.machine.specs.declared.Prepared.{Prepared}
 use Rattle.machine.specs.declared.Prepared.the-variants.{Stored, Absent, Bad}
@@ -25,22 +25,25 @@ use Rattle.machine.specs.declared.Refusal.the-variants.{NoPosition, BadIdentifi
 use Rattle.machine.specs.declared.Edited as Edited
 use Rattle.laws.specs.Lists.{All-append, All-left, All-right, sum-append}
 use Rattle.laws.specs.Grouped.{concat, concat-length, twelve-words, chunks-length}
-use Rattle.laws.specs.Layout.{laid-length, layOut-read, read-length, read-parts, length-parts}
+use Rattle.laws.specs.Layout.{laid-length, layOut-read, recordsOf-layOut, read-length, read-parts, records-read, length-parts}
 use Rattle.moves.specs.Over.{over, gapped}
 use Rattle.moves.proofs.Laws.{over-at}
 use Rattle.moves.proofs.Records.{Twelve, twelve-take, twelve-drop, blank, blank-twelve, insert-laid, write-laid, drop-records}
 use Rattle.seek.specs.Seek.{held, Good, Within, recordAt, between, run, toEnd, isAtom, atomRecords, span, spanOf}
-use Rattle.seek.specs.Below.{between-cons, between-nil, record-kind, end-within}
-use Rattle.seek.specs.Laws.{records-count, atoms-stored, Stands, found, missing, stands-within, stands-records}
+use Rattle.seek.specs.Below.{between-cons, between-nil, record-kind}
+use Rattle.seek.specs.Laws.{records-count, atoms-stored, Stands, stands, missing, stands-within, stands-records}
 use Rattle.seek.specs.declared.Span as Span
-use Rattle.additions.specs.Add.{Key, whichOf, keyOf, marks, pickStart, pickSpan, childOf, spotStep, spotIn, keysOf, placeOf, columnWords, preparedOf, resultOf, given, named, atomOf, wordOf, put}
+use Rattle.additions.specs.Add.{Key, whichOf, keyOf, marks, pickStart, pickSpan, childOf, spotIn, keysOf, foundOf, columnWords, column, preparedOf, resultOf, given, named, atomOf, wordOf, put, intoModel}
+use Rattle.additions.specs.Place.{chainKey, Known, Lands, Grown, Moves}
 use Rattle.additions.specs.declared.NewAtom as Values
 use Rattle.additions.specs.declared.Names as Names
 use Rattle.additions.specs.declared.Word as Word
 use Rattle.additions.specs.declared.Readied as Readied
 use Rattle.additions.specs.declared.Child as Child
+use Rattle.additions.specs.declared.Place as Place
 use Rattle.additions.specs.declared.Spot as Spot
-use Rattle.additions.proofs.Column.{column, or-none, pick-pass, pick-within, Ins, puts-chains, ins-machine, ins-model}
+use Rattle.additions.proofs.Column.{or-none, pick-pass, pick-within, Ins, puts-chains, ins-machine, ins-model}
+use Rattle.additions.proofs.Spans.{Inside, picked-inside, model-inside, model-span}
 
 -- ---- new records in a store
 
@@ -93,21 +96,38 @@ module _ (w : List ℕ) (g : Good w) (m : Machine) (at : ℕ) (new : List Words)
   new-twelve : Twelve new
   new-twelve = All-left _ new (s .post) (All-right _ (s .pre) (new ++ s .post) (subst Twelve (s .is) (twelve-words m)))
 
-  put-done : (x y : ℕ) (s′ : List ℕ) → x ≡ capacity (length w) → y ≡ length (records (held w)) + length new → y ≤ x → s′ ≡ put at (length (records (held w))) (concat new) w
-      → (editedNumbers (Edited.the-variants.Done 1 0), s′) ≡ relaid w (held w) (fits (length w) m)
+  put-fits : (x y : ℕ) → x ≡ capacity (length w) → y ≡ length (records (held w)) + length new → y ≤ x → 12 * length (records m) < length w
+  put-fits x y e f l = omega (arith, grown, length-parts (length w) (read-length w (held w) g) .0)
+
+  put-words : 12 * length (records m) < length w → put at (length (records (held w))) (concat new) w ≡ layOut (length w) m
   unfolding layOut
-  put-done x y s′ e f l q =
-      let n = length-parts (length w) (read-length w (held w) g) .0 in
+  put-words h =
       let rs = records (held w) in
       let a = s .number in
       let p : length (s .pre) ≡ at = omega arith in
       let front : take at rs ≡ s .pre = ap (take at) (s .was) ∙ take-at (s .pre) (s .post) at p in
       let back : drop at rs ≡ s .post = ap (drop at) (s .was) ∙ drop-at (s .pre) (s .post) at p in
-      let r : put at (length rs) (concat new) w ≡ laid (length w) (concat (records m)) =
       ap (put at (length rs) (concat new)) (sym (layOut-read w (held w) g))
-      ∙ put-laid (length w) at rs new (twelve-words (held w)) new-twelve put-low (omega arith)
-      ∙ rw (front, back, s .is) in
-      rw (le-leb (length (records m)) (capacity (length w)) (omega (arith, grown)), kept-atoms, q, r)
+      ∙ put-laid (length w) at rs new (twelve-words (held w)) new-twelve put-low (omega (arith, grown))
+      ∙ rw (front, back, s .is)
+
+  put-done : (x y : ℕ) (s′ : List ℕ) → x ≡ capacity (length w) → y ≡ length (records (held w)) + length new → y ≤ x → s′ ≡ put at (length (records (held w))) (concat new) w
+      → (editedNumbers (Edited.the-variants.Done 1 0), s′) ≡ relaid w (held w) (fits (length w) m)
+  put-done x y s′ e f l q =
+      rw (le-leb (length (records m)) (capacity (length w)) (omega (arith, grown)), kept-atoms, q, put-words (put-fits x y e f l))
+
+  put-grown : (x y : ℕ) (s′ : List ℕ) → x ≡ capacity (length w) → y ≡ length (records (held w)) + length new → y ≤ x → s′ ≡ put at (length (records (held w))) (concat new) w
+      → Grown at new w s′
+  put-grown x y s′ e f l q =
+      let h = put-fits x y e f l in
+      let a = s .number in
+      record {
+        front = s .pre;
+        back = s .post;
+        was = sym (records-read w (held w) g) ∙ s .was;
+        is = ap recordsOf (q ∙ put-words h) ∙ recordsOf-layOut (length w) m h ∙ s .is;
+        number = omega arith;
+      }
 
 -- ---- word_of and ready
 
@@ -318,48 +338,68 @@ module _ (w : List ℕ) (h : ℕ) (key : Key) (from end : ℕ) (r : Child.Child)
 
 -- ---- spot_of
 
+pub at-span : (o : Option (ℕ × ℕ)) (start stop : ℕ) → spanOf o ≡ Span.the-variants.At start stop → o ≡ some (start, stop)
+at-span none start stop e = let z : _≡_ {A = ℕ} 0 1 = cc in absurd (omega arith)
+at-span (some s) start stop e =
+    let x : s .0 ≡ start = cc in
+    let y : s .1 ≡ stop = cc in
+    λ i. some (x i, y i)
+
+no-span : (o : Option (ℕ × ℕ)) → spanOf o ≡ Span.the-variants.Missing → o ≡ none
+no-span none e = refl
+no-span (some s) e = let z : _≡_ {A = ℕ} 0 1 = cc in absurd (omega arith)
+
 module _ (w : List ℕ) (h : ℕ) (key : Key) (from end : ℕ) (r : Span.Span) (e : r ≡ spanOf (pickSpan h key from (between from end w))) where
   pub spot-missing : (keys : List Key) → r ≡ Span.the-variants.Missing → spotIn h (key ∷ keys) from end w ≡ (end, 0)
   unfolding spotIn
-  spot-missing keys m = go (pickSpan h key from (between from end w)) (sym e ∙ m)
-    where
-      go : (o : Option (ℕ × ℕ)) → spanOf o ≡ Span.the-variants.Missing → spotStep o (end, 0) (λ s. spotIn (suc h) keys (s .0 + 1) (s .1) w) ≡ (end, 0)
-      go none q = refl
-      go (some s) q = let z : _≡_ {A = ℕ} 0 1 = cc in absurd (omega arith)
+  spot-missing keys m = rw (no-span (pickSpan h key from (between from end w)) (sym e ∙ m))
 
   module _ (start stop : ℕ) (m : r ≡ Span.the-variants.At start stop) where
+    pub spot-span : pickSpan h key from (between from end w) ≡ some (start, stop)
+    spot-span = at-span (pickSpan h key from (between from end w)) start stop (sym e ∙ m)
+
+    pub spot-inside : Within from end w → Inside from end start stop
+    spot-inside b = picked-inside w from end h b key start stop spot-span
+
     pub spot-within : Within from end w → Within (start + 1) stop w
-    spot-within b = go (pick (key .which) (marks h key) (between from end w)) refl (sym e ∙ m)
-      where
-        go : (o : Option ℕ) → pick (key .which) (marks h key) (between from end w) ≡ o → spanOf (andThen o (λ i. toEnd h (from + i) (drop (suc i) (between from end w)))) ≡ Span.the-variants.At start stop → Within (start + 1) stop w
-        go none q p = let z : _≡_ {A = ℕ} 0 1 = cc in absurd (omega arith)
-        go (some i) q p =
-            let x : from + i ≡ start = cc in
-            let y : suc (from + i) + run h (drop (suc i) (between from end w)) ≡ stop = cc in
-            let l = pick-within (marks h key) (key .which) (between from end w) i q in
-            let n = length-drop from (chunks end w) in
-            let c = chunks-length end w in
-            let o = b .order in
-            let f : from + suc i ≡ start + 1 = omega arith in
-            let z : drop (suc i) (between from end w) ≡ between (start + 1) end w = drop-drop (suc i) from (chunks end w) ∙ ap (λ (k : ℕ). drop k (chunks end w)) f in
-            let v : run h (drop (suc i) (between from end w)) ≡ run h (between (start + 1) end w) = ap (run h) z in
-            let t = end-within w (start + 1) end h (record { order = omega arith; room = b .room }) in
-            record { order = omega arith; room = omega (arith, b .room) }
+    spot-within b = let i = spot-inside b in record { order = omega (arith, i .order); room = omega (arith, i .high, b .room) }
 
     pub spot-on : (keys : List Key) (at n : ℕ) → spotIn (suc h) keys (start + 1) stop w ≡ (at, n) → spotIn h (key ∷ keys) from end w ≡ (at, suc n)
     unfolding spotIn
-    spot-on keys at n f = go (pickSpan h key from (between from end w)) (sym e ∙ m)
-      where
-        go : (o : Option (ℕ × ℕ)) → spanOf o ≡ Span.the-variants.At start stop → spotStep o (end, 0) (λ s. spotIn (suc h) keys (s .0 + 1) (s .1) w) ≡ (at, suc n)
-        go none q = let z : _≡_ {A = ℕ} 0 1 = cc in absurd (omega arith)
-        go (some s) q =
-            let x : s .0 ≡ start = cc in
-            let y : s .1 ≡ stop = cc in
-            rw (x, y, f)
+    spot-on keys at n f = rw (spot-span, f)
 
 pub spot-none : (h from end : ℕ) (w : List ℕ) → spotIn h [] from end w ≡ (end, 0)
 unfolding spotIn
 spot-none h from end w = refl
+
+-- the spot of a chain that is missing, and one below a chain that stands
+module _ (w : List ℕ) (start end id : ℕ) (r : Span.Span) (e : r ≡ spanOf (pickSpan 2 (chainKey id) (start + 1) (between (start + 1) end w))) where
+  pub lands-missing : r ≡ Span.the-variants.Missing → Lands start end id w (record { at = end; depth = 0; chain = end; «chain_end» = end })
+  lands-missing m =
+      record {
+        depth = omega arith;
+        high = omega arith;
+        within = omega arith;
+        missing = λ d. no-span (pickSpan 2 (chainKey id) (start + 1) (between (start + 1) end w)) (sym e ∙ m);
+        last = λ d. refl;
+        chain = λ d. absurd (omega arith);
+        low = λ d. absurd (omega arith);
+        residue = λ d. absurd (omega arith);
+      }
+
+  pub lands-below : (chain stop : ℕ) → r ≡ Span.the-variants.At chain stop → Within (start + 1) end w → (at depth : ℕ) → (1 ≤ depth) × (depth ≤ 3) → chain < at → at ≤ stop → (depth ≡ 1 → at ≡ stop)
+      → Lands start end id w (record { at = at; depth = depth; chain = chain; «chain_end» = stop })
+  lands-below chain stop m b at depth d l u f =
+      record {
+        depth = d .1;
+        high = u;
+        within = spot-inside w 2 (chainKey id) (start + 1) end r e chain stop m b .high;
+        missing = λ z. absurd (omega arith);
+        last = λ z. absurd (omega arith);
+        chain = λ z. spot-span w 2 (chainKey id) (start + 1) end r e chain stop m;
+        low = λ z. l;
+        residue = f;
+      }
 
 -- ---- put_records
 
@@ -413,88 +453,113 @@ values-only : (v : Values.NewAtom) (name : ℕ) → goodValues (atomOf v name) �
 unfolding goodValues
 values-only v name = refl
 
+-- in the model whose span is known
+module _ (w : List ℕ) (g : Good w) (i start stop : ℕ) (e : span (i ∷ []) (held w) ≡ some (start, stop)) where
+  stood : Stands 0 4 (i ∷ []) 0 (held w) start stop
+  stood = stands 0 4 (i ∷ []) 0 (held w) start stop e
+
+  abbrev there : Branch 4
+  there = stood .branch
+
+  long : start + 1 ≤ stop
+  unfolding flat
+  long = omega (arith, stood .last)
+
+  pub chains-within : Within (start + 1) stop w
+  chains-within = record { order = long; room = stands-within w g 0 4 (i ∷ []) (held w) start stop refl stood .room }
+
+  pub model-few : stop ≤ 100000
+  model-few = omega (arith, model-inside w g i start stop (model-span w g i ∙ e) .high, ap length (records-read w (held w) g), good-count w g)
+
+  chains : between (start + 1) stop w ≡ bind (flat 3) (there .1)
+  unfolding flat
+  chains =
+      let x = between-cons w stop start (omega (arith, long)) in
+      let y = stands-records w g 0 4 (i ∷ []) (held w) start stop refl stood in
+      cc
+
+  module _ (residue : ℕ) (code location : Optional) (v : Values.NewAtom) (n : Names.Names) where
+    abbrev atom : NewAtom
+    atom = given [] residue code [] location [] v
+
+    abbrev outcome : List ℕ × List ℕ
+    outcome = relaid w (held w) (intoModel (length w) i atom (preparedOf n) (held w))
+
+    abbrev after : Machine
+    after = replaceAt 0 4 (i ∷ []) ((there .0, intoChains atom (preparedOf n) (there .1)) ∷ []) (held w)
+
+    abbrev place : ℕ × ℕ
+    place = spotIn 2 (keysOf n residue code location) (start + 1) stop w
+
+    put-atom : Ins 4 (held w) after 0 (place .0) (drop (place .1) (column n residue v))
+    put-atom =
+        let x = stood .first in
+        ins-machine i (held w) there _ (start + 1) _ _ (stood .spot) (omega arith) (puts-chains atom n v refl .among w (start + 1) stop (there .1) long chains)
+
+    module _ (s : Spot.Spot) (h : foundOf s ≡ place) (lands : Lands start stop (n .chain) w s) (count : ℕ) (c : count ≡ length (records (held w))) where
+      atom-fits : intoModel (length w) i atom (preparedOf n) (held w) ≡ fits (length w) after
+      unfolding intoModel
+      atom-fits = rw (stood .there)
+
+      ins : Ins 4 (held w) after 0 (s .at) (drop (s .depth) (column n residue v))
+      ins = subst (λ (p : ℕ × ℕ). Ins 4 (held w) after 0 (p .0) (drop (p .1) (column n residue v))) (sym h) put-atom
+
+      pub atom-at : s .at ≤ count
+      atom-at = omega (arith, put-low w g after _ _ ins)
+
+      new-length : count + 4 - s .depth ≡ length (records (held w)) + length (drop (s .depth) (column n residue v))
+      new-length = omega (arith, lands .depth, length-drop (s .depth) (column n residue v))
+
+      pub atom-full : (x : ℕ) → x ≡ capacity (length w) → x < count + 4 - s .depth → (editedNumbers (Edited.the-variants.Refused NoCapacity), w) ≡ outcome
+      atom-full x d l = rw atom-fits (put-full w g after _ _ ins x (count + 4 - s .depth) d new-length l)
+
+      module _ (x : ℕ) (d : x ≡ capacity (length w)) (l : count + 4 - s .depth ≤ x) where
+        pub atom-room : (col : List ℕ) → 12 * count + length (take (48 - 12 * s .depth) (drop (12 * s .depth) col)) < length w
+        atom-room col = omega (arith, lands .depth, length-take (48 - 12 * s .depth) (drop (12 * s .depth) col), good-length w g)
+
+        module _ (col s′ : List ℕ) (k : col ≡ columnWords n residue v) (y : s′ ≡ put (s .at) count (take (48 - 12 * s .depth) (drop (12 * s .depth) col)) w) where
+          new-words : s′ ≡ put (s .at) (length (records (held w))) (concat (drop (s .depth) (column n residue v))) w
+          new-words = let part = column-part n residue v (s .depth) (omega (arith, lands .depth)) in y ∙ rw (k, part, c)
+
+          pub atom-done : (editedNumbers (Edited.the-variants.Done 1 0), s′) ≡ outcome
+          atom-done = rw atom-fits (put-done w g after _ _ ins x (count + 4 - s .depth) s′ d new-length l new-words)
+
+          pub atom-moved : (p q : Place.Place) → Known p w → Moves p i start stop (n .chain) residue s q → Known q s′
+          atom-moved p q known moves =
+              moves w s′ n v refl g known (model-span w g i ∙ e) lands (put-grown w g after _ _ ins x (count + 4 - s .depth) s′ d new-length l new-words)
+
+-- in the model at an index
 module _ (w : List ℕ) (g : Good w) (i : ℕ) (chain : List ℕ) (residue : ℕ) (code : Optional) (conformer : List ℕ) (location : Optional) (name : List ℕ) (v : Values.NewAtom)
     (r : Span.Span) (e : r ≡ spanOf (span (i ∷ []) (held w))) where
-  abbrev atom : NewAtom
-  atom = given chain residue code conformer location name v
+  abbrev asked : NewAtom
+  asked = given chain residue code conformer location name v
 
-  abbrev outcome : List ℕ × List ℕ
-  outcome = relaid w (held w) (addAtom (length w) i atom (held w))
+  abbrev answer : List ℕ × List ℕ
+  answer = relaid w (held w) (addAtom (length w) i asked (held w))
 
-  pub atom-nowhere : r ≡ Span.the-variants.Missing → (editedNumbers (Edited.the-variants.Refused NoPosition), w) ≡ outcome
+  pub atom-nowhere : r ≡ Span.the-variants.Missing → (editedNumbers (Edited.the-variants.Refused NoPosition), w) ≡ answer
   unfolding addAtom
   atom-nowhere m = rw (missing 0 4 (i ∷ []) 0 (held w) (sym e ∙ m))
 
   module _ (start stop : ℕ) (m : r ≡ Span.the-variants.At start stop) where
-    stands : Stands 0 4 (i ∷ []) 0 (held w) start stop
-    stands = found 0 4 (i ∷ []) 0 (held w) start stop (sym e ∙ m)
-
-    abbrev there : Branch 4
-    there = stands .branch
-
-    long : start + 1 ≤ stop
-    unfolding flat
-    long = omega (arith, stands .last)
-
-    pub chains-within : Within (start + 1) stop w
-    chains-within = record { order = long; room = stands-within w g 0 4 (i ∷ []) (held w) start stop refl stands .room }
-
-    chains : between (start + 1) stop w ≡ bind (flat 3) (there .1)
-    unfolding flat
-    chains =
-        let x = between-cons w stop start (omega (arith, long)) in
-        let y = stands-records w g 0 4 (i ∷ []) (held w) start stop refl stands in
-        cc
+    model-spans : span (i ∷ []) (held w) ≡ some (start, stop)
+    model-spans = at-span (span (i ∷ []) (held w)) start stop (sym e ∙ m)
 
     module _ (o : Readied.Readied) (q : resultOf o ≡ prepare (named chain code conformer location name)) where
       -- the names go by no other argument
-      prepared : resultOf o ≡ prepare atom
+      prepared : resultOf o ≡ prepare asked
       unfolding prepare
       prepared = q
 
-      pub atom-unnamed : o ≡ Readied.the-variants.Bad → (editedNumbers (Edited.the-variants.Refused BadIdentifier), w) ≡ outcome
+      pub atom-unnamed : o ≡ Readied.the-variants.Bad → (editedNumbers (Edited.the-variants.Refused BadIdentifier), w) ≡ answer
       unfolding addAtom
-      atom-unnamed z = rw (stands .there, ← prepared, z)
+      atom-unnamed z = rw (stood w g i start stop model-spans .there, ← prepared, z)
 
       module _ (n : Names.Names) (z : o ≡ Readied.the-variants.Ready n) (b : Bool) (f : b ≡ goodValues (atomOf v 0)) where
-        pub atom-bad : b ≡ false → (editedNumbers (Edited.the-variants.Refused BadValue), w) ≡ outcome
+        pub atom-bad : b ≡ false → (editedNumbers (Edited.the-variants.Refused BadValue), w) ≡ answer
         unfolding addAtom
-        atom-bad t = rw (stands .there, ← prepared, z, values-only v (n .name), ← f, t)
+        atom-bad t = rw (stood w g i start stop model-spans .there, ← prepared, z, values-only v (n .name), ← f, t)
 
-        abbrev after : Machine
-        after = replaceAt 0 4 (i ∷ []) ((there .0, intoChains atom (preparedOf n) (there .1)) ∷ []) (held w)
-
-        abbrev place : ℕ × ℕ
-        place = spotIn 2 (keysOf n residue code location) (start + 1) stop w
-
-        put-atom : Ins 4 (held w) after 0 (place .0) (drop (place .1) (column n residue v))
-        put-atom =
-            let x = stands .first in
-            ins-machine i (held w) there _ (start + 1) _ _ (stands .spot) (omega arith) (puts-chains atom n v refl .among w (start + 1) stop (there .1) long chains)
-
-        module _ (t : b ≡ true) (s : Spot.Spot) (h : placeOf s ≡ place) (low : s .1 ≤ 3) (count : ℕ) (c : count ≡ length (records (held w))) where
-          atom-fits : addAtom (length w) i atom (held w) ≡ fits (length w) after
-          unfolding addAtom
-          atom-fits = rw (stands .there, ← prepared, z, values-only v (n .name), ← f, t)
-
-          ins : Ins 4 (held w) after 0 (s .0) (drop (s .1) (column n residue v))
-          ins = subst (λ (p : ℕ × ℕ). Ins 4 (held w) after 0 (p .0) (drop (p .1) (column n residue v))) (sym h) put-atom
-
-          pub atom-at : s .0 ≤ count
-          atom-at = omega (arith, put-low w g after _ _ ins)
-
-          new-length : count + 4 - s .1 ≡ length (records (held w)) + length (drop (s .1) (column n residue v))
-          new-length = omega (arith, length-drop (s .1) (column n residue v))
-
-          pub atom-full : (x : ℕ) → x ≡ capacity (length w) → x < count + 4 - s .1 → (editedNumbers (Edited.the-variants.Refused NoCapacity), w) ≡ outcome
-          atom-full x d l = rw atom-fits (put-full w g after _ _ ins x (count + 4 - s .1) d new-length l)
-
-          module _ (x : ℕ) (d : x ≡ capacity (length w)) (l : count + 4 - s .1 ≤ x) where
-            pub atom-room : (col : List ℕ) → 12 * count + length (take (48 - 12 * s .1) (drop (12 * s .1) col)) < length w
-            atom-room col = omega (arith, length-take (48 - 12 * s .1) (drop (12 * s .1) col), good-length w g)
-
-            pub atom-done : (col s′ : List ℕ) → col ≡ columnWords n residue v → s′ ≡ put (s .0) count (take (48 - 12 * s .1) (drop (12 * s .1) col)) w
-                → (editedNumbers (Edited.the-variants.Done 1 0), s′) ≡ outcome
-            atom-done col s′ k y =
-                let part = column-part n residue v (s .1) (omega arith) in
-                rw atom-fits (put-done w g after _ _ ins x (count + 4 - s .1) s′ d new-length l (y ∙ rw (k, part, c)))
+        pub atom-ready : {x : List ℕ × List ℕ} → b ≡ true → x ≡ relaid w (held w) (intoModel (length w) i (given [] residue code [] location [] v) (preparedOf n) (held w)) → x ≡ answer
+        unfolding addAtom intoModel
+        atom-ready t a = a ∙ rw (stood w g i start stop model-spans .there, ← prepared, z, values-only v (n .name), ← f, t)

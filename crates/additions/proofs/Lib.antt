@@ -1,2 +1,4 @@
 pub mod Column
+pub mod Spans
+pub mod Kept
 pub mod Laws

@@ -6,10 +6,11 @@ use mathlib.Core.Option.{Option, none, some}
 use lib.ListN.{length, getD, drop, set, replicate}
 use lib.Dec.{eqb}
 use Rattle.machine.specs.Lists.{andThen}
-use Rattle.machine.specs.Answer.{Result, ok, refused}
+use Rattle.machine.specs.Answer.{Result, ok, refused, _>>=_}
 use Rattle.machine.specs.Text.{Optional, matchesOptional}
+use Rattle.machine.specs.Store.{Machine}
 use Rattle.machine.specs.Record.{Atom, Words, words, kind}
-use Rattle.machine.specs.Edit.{NewAtom, Prepare, Which, first, last, pick}
+use Rattle.machine.specs.Edit.{NewAtom, Prepare, Change, Which, first, last, pick, position, branchAt, replaceAt, intoChains, fits}
 use Rattle.machine.specs.declared.Prepared.{Prepared}
 use Rattle.machine.specs.declared.Prepared.the-variants.{Stored, Absent, Bad}
 use Rattle.machine.specs.declared.Refusal.the-variants.{BadIdentifier}
@@ -115,15 +116,15 @@ childOf none = Child.the-variants.Missing
 childOf (some n) = Child.the-variants.At n
 
 -- a record number, and how many of the records above a new atom stand already
-abbrev pub Place : Type 0
-Place = ℕ × ℕ
+abbrev pub Found : Type 0
+Found = ℕ × ℕ
 
-abbrev pub spotStep : Option (ℕ × ℕ) → Place → (ℕ × ℕ → Place) → Place
+abbrev pub spotStep : Option (ℕ × ℕ) → Found → (ℕ × ℕ → Found) → Found
 spotStep none s f = s
 spotStep (some p) s f = (f p .0, suc (f p .1))
 
 -- "What is missing is appended": below the records from `from` up to `end`, whose kind is h, one level for each key
-unfoldable pub spotIn : ℕ → List Key → ℕ → ℕ → List ℕ → Place
+unfoldable pub spotIn : ℕ → List Key → ℕ → ℕ → List ℕ → Found
 spotIn h [] from end w = (end, 0)
 spotIn h (key ∷ keys) from end w =
     spotStep (pickSpan h key from (between from end w)) (end, 0) (λ s. spotIn (suc h) keys (s .0 + 1) (s .1) w)
@@ -137,8 +138,8 @@ keysOf names residue code location =
     ∷ record { which = first; word = names .conformer; text = location }
     ∷ []
 
-abbrev pub placeOf : Spot.Spot → Place
-placeOf s = (s .0, s .1)
+abbrev pub foundOf : Spot.Spot → Found
+foundOf s = (s .at, s .depth)
 
 -- ---- the new records
 
@@ -150,7 +151,24 @@ columnWords n residue v =
     ++ ((4 ∷ n .conformer ∷ n .location ∷ replicate 9 0)
     ++ (5 ∷ v .serial ∷ n .name ∷ v .x ∷ v .y ∷ v .z ∷ v .occupancy ∷ v .«b_factor» ∷ v .element ∷ v .charge ∷ v .hetero ∷ 0 ∷ [])))
 
+-- as records
+abbrev pub column : Names.Names → ℕ → Values.NewAtom → List Words
+column n residue v =
+    words 3 (record { id = n .chain })
+    ∷ words 2 (record { serial = residue; code = n .code })
+    ∷ words 1 (record { name = n .conformer; location = n .location })
+    ∷ words 0 (atomOf v (n .name))
+    ∷ []
+
 -- new words put in at record x, among n records, and the trailer set
 unfoldable pub put : ℕ → ℕ → List ℕ → List ℕ → List ℕ
 put x n new w =
     over (12 * x) new (set (gapped (12 * x) (length new) (12 * n) w) (length w - 1) (12 * n + length new))
+
+-- ---- the addition
+
+-- `addAtom` where the names are ready and the values good
+unfoldable pub intoModel : ℕ → ℕ → NewAtom → Prepare → Machine → Result Change
+intoModel n i a p m = do
+  t ← position (branchAt 0 4 (i ∷ []) m)
+  fits n (replaceAt 0 4 (i ∷ []) ((t .0, intoChains a p (t .1)) ∷ []) m)

@@ -1,1 +1,2 @@
 pub mod Add
+pub mod Place

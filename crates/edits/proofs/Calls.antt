@@ -33,8 +33,8 @@ pub at-code : (code k : ℕ) (ws : List ℕ) → code ≡ k → isSome (readCall
 at-code code k ws q h = rw q at h
 
 -- what the other codes leave
-pub codes-position : (code : ℕ) → 1 ≤ code → (code ≡ 1 → ⊥) → (code ≡ 2 → ⊥) → 3 ≤ code
-codes-position code l one two = omega arith
+pub codes-none : (code : ℕ) → 1 ≤ code → code < 3 → (code ≡ 1 → ⊥) → (code ≡ 2 → ⊥) → ⊥
+codes-none code l h one two = omega arith
 
 pub codes-join : (code : ℕ) → 7 ≤ code → (code ≡ 7 → ⊥) → (code ≡ 8 → ⊥) → (code ≡ 9 → ⊥) → (code ≡ 10 → ⊥) → (code ≡ 11 → ⊥) → (code ≡ 12 → ⊥) → 13 ≤ code
 codes-join code l seven eight nine ten eleven twelve = omega arith

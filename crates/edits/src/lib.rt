@@ -1,4 +1,5 @@
-// A list of edits as one call: the store is checked once, and each call then runs its core.
+// A list of edits as one call: the store is checked once, and each call then runs its core. An addition goes on from where the last
+// one went.
 ghost use mathlib.Core.Path.{_≡_};
 ghost use mathlib.Core.Bool.{true};
 ghost use Prim.Native.Nat.{_+_, _*_, _≤_};
@@ -6,10 +7,13 @@ ghost use lib.ListN.{length};
 ghost use Rattle.machine.specs.Answer.{editedNumbers};
 ghost use Rattle.moves.specs.Over.{over};
 ghost use Rattle.seek.specs.Seek.{Good};
+ghost use Rattle.additions.specs.Place.{Known};
 ghost use Rattle.calls.specs.Counted.{isSome};
 ghost use Rattle.calls.specs.Format.{readCall, readCalls};
 ghost use Rattle.edits.specs.Apply.{appliedNumbers, stepOf, callsOf, applied, partEnd, Narrowed, valuesIn, ran, runCalls, applyRun};
+use additions::Added;
 use additions::NewAtom;
+use additions::Place;
 use calls::Counted;
 use machine::Edited;
 use machine::Refusal;
@@ -63,19 +67,22 @@ fn values(words: &[u64]) -> NewAtom
 }
 
 // Each text's end has the text's name.
-fn add_atom(store: &mut [u64], words: &[u64], bytes: &[u8]) -> Edited
+fn add_atom(store: &mut [u64], place: Place, words: &[u64], bytes: &[u8]) -> Added
     requires { ⌜ Good (now store) ⌝ }
+    requires { ⌜ Known place (now store) ⌝ }
     requires { ⌜ isSome (readCall 2 (now words)) ≡ true ⌝ }
     requires { ⌜ Narrowed (now words) (now bytes) ⌝ }
-    ensures { λ r. ⌜ (editedNumbers r, now (store .exit)) ≡ stepOf (now (store .entry)) (readCall 2 (now (words .entry))) ⌝ }
+    ensures { λ r. ⌜ Known (r .place) (now (store .exit)) ⌝ }
+    ensures { λ r. ⌜ (editedNumbers (r .edited), now (store .exit)) ≡ stepOf (now (store .entry)) (readCall 2 (now (words .entry))) ⌝ }
 {
     let chain = part_end(words, 13);
     let code = part_end(words, chain);
     let conformer = part_end(words, code);
     let location = part_end(words, conformer);
     let name = part_end(words, location);
-    additions::add_atom(
+    additions::add_atom_at(
         store,
+        place,
         words[0],
         &bytes[14..chain],
         words[1],
@@ -193,16 +200,16 @@ fn join(store: &mut [u64], code: u64, words: &[u64]) -> Edited
 
 // ---- one call
 
-// By the code; the last are the joins.
+// By the code, which is not that of `AddAtom`; the last are the joins.
 fn run_call(store: &mut [u64], code: u64, words: &[u64], bytes: &[u8]) -> Edited
     requires { ⌜ Good (now store) ⌝ }
+    requires { ⌜ (code ≡ 2 → ⊥) ⌝ }
     requires { ⌜ isSome (readCall code (now words)) ≡ true ⌝ }
     requires { ⌜ Narrowed (now words) (now bytes) ⌝ }
     ensures { λ r. ⌜ (editedNumbers r, now (store .exit)) ≡ stepOf (now (store .entry)) (readCall code (now (words .entry))) ⌝ }
 {
     match code {
         1 => add_model(store, words),
-        2 => add_atom(store, words, bytes),
         3..=6 => remove_at(store, code, words),
         7 => remove_chain_by_id(store, words, bytes),
         8 => remove_residue_by_id(store, words, bytes),
@@ -214,15 +221,25 @@ fn run_call(store: &mut [u64], code: u64, words: &[u64], bytes: &[u8]) -> Edited
     }
 }
 
-// The bytes are lent to the calls that have texts.
-fn apply_call(store: &mut [u64], code: u64, words: &[u64], bytes: &mut [u8]) -> Edited
+// The bytes are lent to the calls that have texts. After any call but an addition of an atom the place is not known.
+fn apply_call(store: &mut [u64], place: Place, code: u64, words: &[u64], bytes: &mut [u8]) -> Added
     requires { ⌜ Good (now store) ⌝ }
+    requires { ⌜ Known place (now store) ⌝ }
     requires { ⌜ isSome (readCall code (now words)) ≡ true ⌝ }
     requires { ⌜ length (now words) ≤ length (now bytes) ⌝ }
-    ensures { λ r. ⌜ (editedNumbers r, now (store .exit)) ≡ stepOf (now (store .entry)) (readCall code (now (words .entry))) ⌝ }
+    ensures { λ r. ⌜ Known (r .place) (now (store .exit)) ⌝ }
+    ensures { λ r. ⌜ (editedNumbers (r .edited), now (store .exit)) ≡ stepOf (now (store .entry)) (readCall code (now (words .entry))) ⌝ }
 {
     narrow(words, bytes);
-    run_call(store, code, words, bytes)
+    if code == 2 {
+        return add_atom(store, place, words, bytes);
+    }
+    let edited = run_call(store, code, words, bytes);
+    let nowhere = additions::nowhere();
+    Added {
+        edited: edited,
+        place: nowhere,
+    }
 }
 
 // ---- the list
@@ -244,13 +261,17 @@ fn apply_all(store: &mut [u64], list: &[u64], out: &mut [u64])
     ensures { λ _. ⌜ (now (store .exit), now (out .exit)) ≡ applied (now (store .entry)) (now (out .entry)) (callsOf (readCalls (now (list .entry)))) ⌝ }
 {
     let mut bytes: [u8; 1024] = [0; 1024];
+    let mut place = additions::nowhere();
     let mut at: usize = 0;
     let mut written: usize = 0;
     while at < list.len() {
         let start = at + 2;
         let end = start + list[at + 1] as usize;
-        let edited = apply_call(store, list[at], &list[start..end], &mut bytes);
+        let added = apply_call(store, place, list[at], &list[start..end], &mut bytes);
+        let edited = added.edited;
+        let next = added.place;
         put_answer(out, written, edited);
+        place = next;
         at = end;
         written += 3;
     }

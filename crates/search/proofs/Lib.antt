@@ -3,3 +3,4 @@ pub mod Records
 pub mod Nodes
 pub mod Depth
 pub mod Postfix
+pub mod Lowest

@@ -221,7 +221,7 @@ nodes-in (c ∷ p ∷ q ∷ rest) ns h = go (nodeOf c p q) refl (nodesOf rest) r
     go (ok m) a (ok ms) b k f = let i : m ∷ ms ≡ ns = cc in let j = f ms b in let l = node-only c p q m a in cc
 
 module _ (v : Term → Tri) (t : List ℕ) (good : checked (readTree t) ≡ Good) where
-  tree-read : readTree t ≡ ok (nodesIn t)
+  pub tree-read : readTree t ≡ ok (nodesIn t)
   tree-read = go (readTree t) refl good
     where
       go : (r : Result (List Node)) → readTree t ≡ r → checked r ≡ Good → readTree t ≡ ok (nodesIn t)

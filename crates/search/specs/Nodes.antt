@@ -4,6 +4,7 @@ use mathlib.Core.Bool.{Bool, false, _&&_, cond}
 use mathlib.Core.List.{List, [], _∷_}
 use mathlib.Core.Option.{Option, none, some}
 use lib.Dec.{ltb}
+use lib.ListN.{getD}
 use Rattle.machine.specs.Answer.{Result, ok, refused, _>>=_}
 use Rattle.machine.specs.Query.{Code, codeAt, goodParameter, nodeOf}
 use Rattle.machine.specs.declared.Node.{Node}
@@ -70,3 +71,24 @@ maybeDepth (refused r) = MaybeDepth.the-variants.Refused
 abbrev pub checked : Result (List Node) → CheckedTree.CheckedTree
 checked (ok ns) = CheckedTree.the-variants.Good
 checked (refused r) = CheckedTree.the-variants.Refused r
+
+-- ---- the kinds that a tree asks for
+
+-- by code: the kind that a term asks for, the lesser where it asks for two; 5 for an operator, which asks nothing; 0 for a
+-- constant, and for what is no code
+abbrev pub kinds : List ℕ
+kinds =
+    0 ∷ 1 ∷ 1 ∷ 2 ∷ 2 ∷ 3 ∷ 3 ∷ 3 ∷ 3 ∷ 4 ∷ 4 ∷ 4 ∷ 5 ∷ 5 ∷ 5 ∷ 5 ∷ 5 ∷ 5 ∷ 5 ∷ 5 ∷ 4 ∷ 4 ∷ 5 ∷ 5 ∷ 5 ∷ 5 ∷ 5 ∷ 0 ∷ 0 ∷ []
+
+abbrev pub kindFor : ℕ → ℕ
+kindFor c = getD kinds c 0
+
+abbrev pub lesser : ℕ → ℕ → ℕ
+lesser a b = cond (ltb a b) a b
+
+-- the lowest of r and the kinds of a tree's words, of which every third is a code
+unfoldable pub lowestFrom : ℕ → List ℕ → ℕ
+lowestFrom r [] = r
+lowestFrom r (c ∷ []) = lesser (kindFor c) r
+lowestFrom r (c ∷ p ∷ []) = lesser (kindFor c) r
+lowestFrom r (c ∷ p ∷ q ∷ rest) = lowestFrom (lesser (kindFor c) r) rest

@@ -19,7 +19,8 @@ ghost use Rattle.machine.specs.Query as Query;
 ghost use Rattle.machine.specs.declared.Tri.the-variants.{False, Undecided};
 ghost use Rattle.machine.specs.declared.Node.the-variants.{Single};
 ghost use Rattle.search.specs.Levels.{atModel, atChain, atResidue, atConformer, atAtom, recordAt, valueAt, narrow, numbersIn, Inside};
-ghost use Rattle.search.specs.Nodes.{nodeFor, goodNode, leftBy, deeperBy, depthOf, maybeDepth, checked};
+ghost use Rattle.search.specs.Nodes as Nodes;
+ghost use Rattle.search.specs.Nodes.{kindFor, lowestFrom, nodeFor, goodNode, leftBy, deeperBy, depthOf, maybeDepth, checked};
 ghost use Rattle.search.specs.Value.{Operand, Evaluated};
 ghost use Rattle.search.specs.declared.MaybeDepth.the-variants as MaybeDepth;
 ghost use Rattle.search.specs.declared.CheckedTree.the-variants.{Good};
@@ -501,6 +502,70 @@ pub fn check_tree(tree: &[u64]) -> CheckedTree
     }
 }
 
+// ---- the kinds that a tree asks for
+
+// By code: the kind that a term asks for, the lesser where it asks for two. An operator asks nothing; a constant may decide.
+const KINDS: [u64; 29] = [
+    0, // no code
+    1, // ModelSerialNumber
+    1, // ModelSerialNumberRange
+    2, // ChainId
+    2, // ChainIdRange
+    3, // ResidueSerialNumber
+    3, // ResidueSerialNumberRange
+    3, // ResidueInsertionCode
+    3, // ResidueId
+    4, // ConformerName
+    4, // ConformerAlternativeLocation
+    4, // ConformerId
+    5, // AtomSerialNumber
+    5, // AtomSerialNumberRange
+    5, // AtomName
+    5, // Element
+    5, // BFactor
+    5, // BFactorRange
+    5, // Occupancy
+    5, // OccupancyRange
+    4, // Backbone
+    4, // SideChain
+    5, // Hetero
+    5, // And
+    5, // Or
+    5, // Xor
+    5, // Not
+    0, // known false
+    0, // known true
+];
+
+fn kind_for(code: u64) -> u64
+    ensures { λ r. ⌜ r ≡ kindFor code ⌝ }
+{
+    if 29 <= code {
+        return 0;
+    }
+    let kinds = KINDS;
+    kinds[code as usize]
+}
+
+fn lesser(a: u64, b: u64) -> u64
+    ensures { λ r. ⌜ r ≡ Nodes.lesser a b ⌝ }
+{
+    if a < b { a } else { b }
+}
+
+// The lowest kind that a tree asks for: where only lesser ones are known it is undecided.
+pub fn lowest_kind(tree: &[u64]) -> u64
+    ensures { λ r. ⌜ r ≡ lowestFrom 5 (now (tree .entry)) ⌝ }
+{
+    let mut lowest: u64 = 5;
+    let mut i: usize = 0;
+    while i < tree.len() {
+        lowest = lesser(kind_for(tree[i]), lowest);
+        i += 3;
+    }
+    lowest
+}
+
 // ---- the value of a tree
 
 // An operand's value, and the word at which its nodes start.
@@ -595,16 +660,15 @@ fn evaluate(
 pub fn value(
     tree: &[u64],
     words: &[u64],
-    at: RecordNumbers,
+    place: &[u64; 5],
     low: u64,
     high: u64,
     residues: &[u64],
     atoms: &[u64],
 ) -> Tri
-    requires { ⌜ (checked (Query.readTree (now tree)) ≡ Good) × Inside (now words) at ⌝ }
-    ensures { λ r. ⌜ r ≡ Query.treeValue (valueAt (now (words .entry)) at low high (now (residues .entry)) (now (atoms .entry))) (now (tree .entry)) ⌝ }
+    requires { ⌜ (checked (Query.readTree (now tree)) ≡ Good) × Inside (now words) (numbersIn (now place)) ⌝ }
+    ensures { λ r. ⌜ r ≡ Query.treeValue (valueAt (now (words .entry)) (numbersIn (now (place .entry))) low high (now (residues .entry)) (now (atoms .entry))) (now (tree .entry)) ⌝ }
 {
-    let place = [at.model, at.chain, at.residue, at.conformer, at.atom];
-    let p = evaluate(tree, words, &place, low, high, residues, atoms);
+    let p = evaluate(tree, words, place, low, high, residues, atoms);
     p.value
 }

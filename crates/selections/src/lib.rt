@@ -1,6 +1,5 @@
 // Atoms that a tree picks out of a model, to be removed (document 01, "Edits").
 use machine::Edited;
-use machine::RecordNumbers;
 use machine::Refusal;
 use machine::Tri;
 use search::CheckedTree;
@@ -43,14 +42,9 @@ fn stays(store: &[u64], number: usize, tree: &[u64], residues: &[u64], atoms: &[
         return true;
     }
     let n = number as u64;
-    let at = RecordNumbers {
-        model: n,
-        chain: n,
-        residue: n,
-        conformer: n,
-        atom: n,
-    };
-    let v = search::value(tree, store, at, Record::ATOM, Record::ATOM, residues, atoms);
+    let place = [n, n, n, n, n];
+    let only = Record::ATOM;
+    let v = search::value(tree, store, &place, only, only, residues, atoms);
     spares(v)
 }
 

@@ -62,13 +62,15 @@ fn finite_words(r: &[u64]) -> bool
     )
 }
 
-// An atom's record. Element is 1 to 118 or 0, hetero 0 or 1, and word 11 is not named.
+// An atom's record. Element is 1 to 118 or 0, hetero 0 or 1, and word 11 is not named. The name is tested before the other words
+// are read, which would have to be kept meanwhile.
 fn good_atom(r: &[u64]) -> bool
     requires { ⌜ (length (now r) ≡ 12) × (kind (now r) ≡ 5) ⌝ }
     ensures { λ b. ⌜ b ≡ goodRecord (5 - kind (now (r .entry))) (now (r .entry)) ⌝ }
 {
+    let named = helper::stored_atom_name(r[2]);
     let values = both(both(finite_words(r), r[8] <= 118), r[10] <= 1);
-    both(r[11] == 0, both(helper::stored_atom_name(r[2]), values))
+    both(r[11] == 0, both(named, values))
 }
 
 // Whether twelve words are a good record of the kind that word 0 gives.

@@ -1,10 +1,10 @@
 -- The laws that the proofs of the functions apply. Assumes nothing.
-use Prim.Native.Nat.{ℕ, suc, _+_, _-_, _*_, _/_, _≤_, _<_}
+use Prim.Native.Nat.{ℕ, zero, suc, _+_, _-_, _*_, _/_, _≤_, _<_}
 use mathlib.Core.Path.{_≡_, refl, sym, ap, _∙_}
 use mathlib.Core.Bool.{Bool, true, false, cond}
 use mathlib.Core.List.{List, [], _∷_, map, append-assoc}
 use native.Mathlib.Omega.{arith}
-use lib.ListN.{length, take, drop, getD, set, length-append, length-map}
+use lib.ListN.{length, take, drop, getD, set, length-append, length-map, length-set}
 use lib.Seq.{sets-eq}
 use lib.Dec.{eqb, leb}
 use borrow.Author.Tests.{eq-eqb, ne-eqb, le-leb, leb-true, leb-false, lt-leb}
@@ -31,7 +31,7 @@ use Rattle.store.specs.Laws.{Held, good-store, refused-find}
 use Rattle.store.specs.declared.Checked as Checked
 use Rattle.search.specs.Nodes.{checked}
 use Rattle.search.specs.declared.CheckedTree as CheckedTree
-use Rattle.search.specs.Levels.{Inside}
+use Rattle.search.specs.Levels.{numbersIn, Inside}
 use Rattle.walk.specs.Walk.{five, pick, enteredAt, valueBy, Sure, Turned, foundIn, wrote, Levelled, UpTo, Ready, Asked, start}
 use Rattle.walk.specs.declared.State.{State}
 use Rattle.walk.specs.Laws.{whole-levels, found-whole}
@@ -60,9 +60,26 @@ depth-high : (k : ℕ) → k ≤ 5 → (b : Bool) → cond b k (k - 1) ≤ 5
 depth-high k h true = h
 depth-high k h false = omega arith
 
--- record n is entered by its kind
-pub entered-law : (n : ℕ) (at : RecordNumbers) {k j : ℕ} → k ≡ j → enteredAt j n at ≡ enteredAt k n at
-entered-law n at e = sym (ap (λ (i : ℕ). enteredAt i n at) e)
+-- ---- five numbers in a list
+
+five-is : (l : List ℕ) → length l ≡ 5 → l ≡ five (numbersIn l)
+five-is [] h = absurd (omega arith)
+five-is (a ∷ []) h = absurd (omega arith)
+five-is (a ∷ b ∷ []) h = absurd (omega arith)
+five-is (a ∷ b ∷ c ∷ []) h = absurd (omega arith)
+five-is (a ∷ b ∷ c ∷ d ∷ []) h = absurd (omega arith)
+five-is (a ∷ b ∷ c ∷ d ∷ e ∷ []) h = refl
+five-is (a ∷ b ∷ c ∷ d ∷ e ∷ f ∷ l) h = absurd (omega arith)
+
+entered-five : (k n : ℕ) (at : RecordNumbers) → 1 ≤ k → k ≤ 5 → numbersIn (set (five at) (k - 1) n) ≡ enteredAt k n at
+unfolding enteredAt
+entered-five zero n at l h = absurd (omega arith)
+entered-five (suc zero) n at l h = refl
+entered-five (suc (suc zero)) n at l h = refl
+entered-five (suc (suc (suc zero))) n at l h = refl
+entered-five (suc (suc (suc (suc zero)))) n at l h = refl
+entered-five (suc (suc (suc (suc (suc zero))))) n at l h = refl
+entered-five (suc (suc (suc (suc (suc (suc k)))))) n at l h = absurd (omega arith)
 
 -- ---- counting
 
@@ -96,8 +113,16 @@ module _ (w t residues atoms : List ℕ) (low end : ℕ) (hits : List (List ℕ)
     pub least : 1 ≤ k
     least = omega (arith, split .0 .low, record-kind w n)
 
-    most : k ≤ 5
+    pub most : k ≤ 5
     most = omega (arith, split .0 .high, record-kind w n)
+
+    -- the record is the last of its kind that was seen
+    module _ (l : List ℕ) (e : length l ≡ 5) (l′ : List ℕ) (set-is : l′ ≡ set l (k - 1) n) where
+      pub walk-entered : numbersIn l ≡ at → numbersIn l′ ≡ enteredAt k n at
+      walk-entered q = rw (set-is, ← q) (ap (λ (x : List ℕ). numbersIn (set x (k - 1) n)) (five-is l e) ∙ entered-five k n (numbersIn l) least most)
+
+      pub walk-five : length l′ ≡ 5
+      walk-five = ap length set-is ∙ length-set l (k - 1) n ∙ e
 
     pub walk-deep : d + 1 < k → Walking w t residues atoms low end hits (n + 1) d s at found
     walk-deep h =

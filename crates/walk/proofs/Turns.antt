@@ -11,7 +11,7 @@ use borrow.Author.Tests.{le-ltb, lt-ltb, ne-eqb}
 use Rattle.machine.specs.Lists.{keep}
 use Rattle.machine.specs.Record.{Words, kind, fieldsOf}
 use Rattle.machine.specs.Kleene.{isHit}
-use Rattle.machine.specs.Query.{Place, Names, treeValue, termValue, window}
+use Rattle.machine.specs.Query.{Place, Names, readTree, treeValue, termValue, window}
 use Rattle.machine.specs.Find.{Site, enter, below}
 use Rattle.machine.specs.declared.RecordNumbers.{RecordNumbers}
 use Rattle.machine.specs.declared.Tri.{Tri}
@@ -23,6 +23,9 @@ use Rattle.laws.specs.Scan.{above}
 use Rattle.seek.specs.Seek.{between}
 use Rattle.seek.specs.Below.{record-kind, between-cons, between-nil}
 use Rattle.search.specs.Levels.{recordAt, placeAt, valueAt}
+use Rattle.search.specs.Nodes.{checked, lowestFrom}
+use Rattle.search.specs.declared.CheckedTree.the-variants.{Good}
+use Rattle.search.proofs.Lowest.{below-lowest}
 use Rattle.walk.specs.Sieve.{depth, sieve}
 use Rattle.walk.specs.Pruned.{window-window, above-above}
 use Rattle.walk.specs.Walk.{five, siteAt, enteredAt, depthAfter, valueBy, Sure, Turned, mayHit, foundIn}
@@ -93,6 +96,10 @@ module _ (w t : List ℕ) (low : ℕ) (residues atoms : List ℕ) where
 
       pub turn-undecided : v ≡ Undecided → Turned (by at) k (record { live = k; sure = 5 })
       turn-undecided f = record { live = rw (sym e ∙ f); sure = λ z. absurd (omega arith) }
+
+    -- no kind that is known is one that the tree asks for
+    pub turn-quiet : (lowest : ℕ) → checked (readTree t) ≡ Good → lowest ≡ lowestFrom 5 t → k < lowest → Turned (by at) k (record { live = k; sure = 5 })
+    turn-quiet lowest good e h = turn-undecided Undecided (below-lowest w at low k residues atoms t good (rw (← e) h)) refl
 
 -- ---- a record of the walk
 

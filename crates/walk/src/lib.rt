@@ -7,18 +7,18 @@ use machine::Tri;
 use search::CheckedTree;
 use store::Checked;
 ghost use mathlib.Core.Path.{_≡_};
-ghost use Prim.Native.Nat.{_+_, _*_, _≤_};
-ghost use lib.ListN.{length};
+ghost use Prim.Native.Nat.{_+_, _-_, _*_, _≤_};
+ghost use lib.ListN.{length, set};
 ghost use lib.Dec.{leb};
 ghost use Rattle.machine.specs.Answer.{foundNumbers};
 ghost use Rattle.machine.specs.Query.{readTree};
 ghost use Rattle.machine.specs.Find.{hitsIn, findRun};
 ghost use Rattle.moves.specs.Over.{over};
 ghost use Rattle.seek.specs.Seek.{held};
-ghost use Rattle.search.specs.Levels.{Inside};
-ghost use Rattle.search.specs.Nodes.{checked};
+ghost use Rattle.search.specs.Levels.{numbersIn, Inside};
+ghost use Rattle.search.specs.Nodes.{checked, lowestFrom};
 ghost use Rattle.search.specs.declared.CheckedTree.the-variants.{Good};
-ghost use Rattle.walk.specs.Walk.{five, start as startAt, enteredAt, valueBy, Sure, Turned, foundIn, wrote, Ready, Asked};
+ghost use Rattle.walk.specs.Walk.{five, start as startAt, valueBy, Sure, Turned, foundIn, wrote, Ready, Asked};
 
 // ---- a turn
 
@@ -34,47 +34,19 @@ fn start() -> RecordNumbers
     }
 }
 
-// Record n of a kind is the last that was seen.
-fn entered(kind: u64, n: u64, at: RecordNumbers) -> RecordNumbers
-    ensures { λ r. ⌜ r ≡ enteredAt kind n at ⌝ }
+// The five numbers, from the model's down: the record that was last seen of each kind.
+fn numbers_of(at: RecordNumbers) -> [u64; 5]
+    ensures { λ r. ⌜ r ≡ five at ⌝ }
 {
-    match kind {
-        1 => RecordNumbers {
-            model: n,
-            chain: at.chain,
-            residue: at.residue,
-            conformer: at.conformer,
-            atom: at.atom,
-        },
-        2 => RecordNumbers {
-            model: at.model,
-            chain: n,
-            residue: at.residue,
-            conformer: at.conformer,
-            atom: at.atom,
-        },
-        3 => RecordNumbers {
-            model: at.model,
-            chain: at.chain,
-            residue: n,
-            conformer: at.conformer,
-            atom: at.atom,
-        },
-        4 => RecordNumbers {
-            model: at.model,
-            chain: at.chain,
-            residue: at.residue,
-            conformer: n,
-            atom: at.atom,
-        },
-        _ => RecordNumbers {
-            model: at.model,
-            chain: at.chain,
-            residue: at.residue,
-            conformer: at.conformer,
-            atom: n,
-        },
-    }
+    [at.model, at.chain, at.residue, at.conformer, at.atom]
+}
+
+// Record n of a kind is the last that was seen.
+fn enter(at: &mut [u64; 5], kind: u64, n: u64)
+    requires { ⌜ (1 ≤ kind) × (kind ≤ 5) ⌝ }
+    ensures { λ _. ⌜ now (at .exit) ≡ set (now (at .entry)) (kind - 1) n ⌝ }
+{
+    at[kind as usize - 1] = n;
 }
 
 // Beside the last records that were seen: how many of them the next one may stand under, and the kind of one at which the
@@ -93,22 +65,26 @@ impl State {
 }
 
 // After a record that is entered. What is below one where the tree is false is too deep then; "Undecided counts as a hit".
-// An atom is a hit where `live` is 5.
+// An atom is a hit where `live` is 5. A tree that asks for none of the kinds that are known is undecided, with no look.
 fn turn(
     store: &[u64],
     tree: &[u64],
-    at: RecordNumbers,
+    at: &[u64; 5],
     low: u64,
     kind: u64,
+    lowest: u64,
     sure: u64,
     residues: &[u64],
     atoms: &[u64],
 ) -> State
-    requires { ⌜ (checked (readTree (now tree)) ≡ Good) × Inside (now store) at × (1 ≤ kind) × Sure (valueBy (now store) (now tree) low (now residues) (now atoms) at) sure kind ⌝ }
-    ensures { λ r. ⌜ Turned (valueBy (now (store .entry)) (now (tree .entry)) low (now (residues .entry)) (now (atoms .entry)) at) kind r ⌝ }
+    requires { ⌜ (checked (readTree (now tree)) ≡ Good) × Inside (now store) (numbersIn (now at)) × (1 ≤ kind) × Sure (valueBy (now store) (now tree) low (now residues) (now atoms) (numbersIn (now at))) sure kind × (lowest ≡ lowestFrom 5 (now tree)) ⌝ }
+    ensures { λ r. ⌜ Turned (valueBy (now (store .entry)) (now (tree .entry)) low (now (residues .entry)) (now (atoms .entry)) (numbersIn (now (at .entry)))) kind r ⌝ }
 {
     if sure < kind {
         return State::new(kind, sure);
+    }
+    if kind < lowest {
+        return State::new(kind, 5);
     }
     let above = kind - 1;
     let v = search::value(tree, store, at, low, kind, residues, atoms);
@@ -136,7 +112,8 @@ pub fn count_in(
     requires { ⌜ Ready (now store) from end (now tree) depth first ⌝ }
     ensures { λ r. ⌜ r ≡ length (foundIn (now (store .entry)) from end (now (tree .entry)) low depth first (now (residues .entry)) (now (atoms .entry))) ⌝ }
 {
-    let mut at = first;
+    let lowest = search::lowest_kind(tree);
+    let mut at = numbers_of(first);
     let mut live = depth;
     let mut sure: u64 = 5;
     let mut found: u64 = 0;
@@ -146,8 +123,8 @@ pub fn count_in(
         if live + 1 < kind {
             n += 1;
         } else {
-            at = entered(kind, n as u64, at);
-            let next = turn(store, tree, at, low, kind, sure, residues, atoms);
+            enter(&mut at, kind, n as u64);
+            let next = turn(store, tree, &at, low, kind, lowest, sure, residues, atoms);
             live = next.live;
             sure = next.sure;
             if live == 5 {
@@ -162,16 +139,16 @@ pub fn count_in(
 }
 
 // "A hit is five words: the record numbers of model, chain, residue, conformer, atom."
-fn put(out: &mut [u64], hit: u64, at: RecordNumbers)
+fn put(out: &mut [u64], hit: u64, at: &[u64; 5])
     requires { ⌜ hit * 5 + 5 ≤ length (now out) ⌝ }
-    ensures { λ _. ⌜ now (out .exit) ≡ over (hit * 5) (five at) (now (out .entry)) ⌝ }
+    ensures { λ _. ⌜ now (out .exit) ≡ over (hit * 5) (five (numbersIn (now (at .entry)))) (now (out .entry)) ⌝ }
 {
     let word = hit as usize * 5;
-    out[word] = at.model;
-    out[word + 1] = at.chain;
-    out[word + 2] = at.residue;
-    out[word + 3] = at.conformer;
-    out[word + 4] = at.atom;
+    out[word] = at[0];
+    out[word + 1] = at[1];
+    out[word + 2] = at[2];
+    out[word + 3] = at[3];
+    out[word + 4] = at[4];
 }
 
 // Writes those hits, and says how many they are.
@@ -190,7 +167,8 @@ pub fn find_in(
     requires { ⌜ Ready (now store) from end (now tree) depth first × (5 * length (foundIn (now store) from end (now tree) low depth first (now residues) (now atoms)) ≤ length (now out)) ⌝ }
     ensures { λ r. ⌜ (r, now (out .exit)) ≡ wrote (foundIn (now (store .entry)) from end (now (tree .entry)) low depth first (now (residues .entry)) (now (atoms .entry))) (now (out .entry)) ⌝ }
 {
-    let mut at = first;
+    let lowest = search::lowest_kind(tree);
+    let mut at = numbers_of(first);
     let mut live = depth;
     let mut sure: u64 = 5;
     let mut found: u64 = 0;
@@ -200,12 +178,12 @@ pub fn find_in(
         if live + 1 < kind {
             n += 1;
         } else {
-            at = entered(kind, n as u64, at);
-            let next = turn(store, tree, at, low, kind, sure, residues, atoms);
+            enter(&mut at, kind, n as u64);
+            let next = turn(store, tree, &at, low, kind, lowest, sure, residues, atoms);
             live = next.live;
             sure = next.sure;
             if live == 5 {
-                put(out, found, at);
+                put(out, found, &at);
                 found += 1;
                 n += 1;
             } else {

@@ -1,21 +1,27 @@
--- `edits::apply_all` meets its contract. The loop's invariant: the calls that are left do what all of them did, and no length changes. Assumes nothing.
+-- `edits::apply_all` meets its contract. The loop's invariant: the calls that are left do what all of them did, no length changes, and
+-- the place is that of the store. Assumes nothing.
 use Prim.Native.Nat.{_-_}
 use mathlib.Core.Path.{_≡_}
 use native.Mathlib.Omega.{arith}
 use lib.ListN.{length}
+use Rattle.additions.specs.Place.{Known}
+use Rattle.additions.proofs.Kept.{nowhere-known}
 use borrow.Author.Needs.{needs}
 use Rattle.edits.proofs.Lists.{Going, going-start, next-of, next-reads, next-short, answer-room, going-turn, going-end}
 use Rattle.edits.proofs.apply_all.Statement.{statement}
 use Rattle.edits.proofs.apply_all.Tie as tie
 
 abbrev Inv-loop : tie.InvT-loop
-Inv-loop store₀ list out₀ bytes₀ at₀ written₀ store out bytes at written = Going store₀ out₀ list store out at written × (length store ≡ length store₀) × (length bytes ≡ 1024)
+Inv-loop store₀ list out₀ bytes₀ place₀ at₀ written₀ store out bytes place at written = Going store₀ out₀ list store out at written × (length store ≡ length store₀) × (length bytes ≡ 1024) × Known place store
 
 abbrev μ-loop : tie.MeasureT-loop
-μ-loop store₀ list out₀ bytes₀ at₀ written₀ store out bytes at written = length list - at
+μ-loop store₀ list out₀ bytes₀ place₀ at₀ written₀ store out bytes place at written = length list - at
+
+nowhere-requires : tie.Need-nowhere-requires Inv-loop μ-loop
+nowhere-requires c κs = search needs
 
 loop-holds : tie.Need-loop-holds Inv-loop μ-loop
-loop-holds c = search (needs, going-start)
+loop-holds c = search (needs, going-start, nowhere-known)
 
 add-start : tie.Need-add-start Inv-loop μ-loop
 add-start c = search needs
@@ -58,23 +64,26 @@ apply-call-requires c κs =
     let loop = c .before .before .before .before .before .before .loop in
     let inv = loop .inv in
     let t = c .before .before .before .before .before .loop-test .taken in
-    (inv .0 .good, (next-reads (inv .0) t, next-short (inv .0) t (loop .bytes) (inv .2)))
+    (inv .0 .good, (inv .3, (next-reads (inv .0) t, next-short (inv .0) t (loop .bytes) (inv .2))))
 
 put-answer-requires : tie.Need-put-answer-requires Inv-loop μ-loop
 put-answer-requires c κs = search (needs, answer-room)
 
 add-written : tie.Need-add-written Inv-loop μ-loop
-add-written c = search needs
+add-written c =
+    let start = c .before .before .before .before .before .before .before .before .before .before .before .before .before .before .before .before .before .before .before .before in
+    let room = answer-room (c .before .before .before .before .before .before .before .before .before .before .before .before .before .before .before .loop .inv .0) (c .before .before .before .before .before .before .before .before .before .before .before .before .before .before .loop-test .taken) in
+    omega (arith, start .good)
 
 loop-less : tie.Need-loop-less Inv-loop μ-loop
 loop-less c = search needs
 
 loop-again : tie.Need-loop-again Inv-loop μ-loop
 loop-again c =
-    let called = c .before .before .before .before .before .before .before in
+    let called = c .before .before .before .before .before .before .before .before in
     let inv = called .before .before .before .before .before .before .before .loop .inv in
     let t = called .before .before .before .before .before .before .loop-test .taken in
-    (going-turn (inv .0) t _ _ (called .apply-call .result) (called .apply-call .ensures) (c .before .before .put-answer .ensures), search needs, search needs)
+    (going-turn (inv .0) t _ _ (called .apply-call .result .edited) (called .apply-call .ensures .1) (c .before .before .put-answer .ensures), search needs, search needs, called .apply-call .ensures .0)
 
 same-length : tie.Need-same-length Inv-loop μ-loop
 same-length c = search needs
@@ -91,6 +100,7 @@ apply-all-spec =
     (tie.spec
     Inv-loop
     μ-loop
+    nowhere-requires
     loop-holds
     add-start
     add-end

@@ -1,17 +1,13 @@
 -- `edits::run_call` meets its contract. Assumes nothing.
 use mathlib.Core.Logic.{⊎-elim}
-use native.Mathlib.Omega.{arith}
 use borrow.Author.Needs.{needs}
 use Rattle.edits.proofs.Texts.{read}
-use Rattle.edits.proofs.Calls.{at-code, of-code, codes-position, codes-join}
+use Rattle.edits.proofs.Calls.{at-code, of-code, codes-none, codes-join}
 use Rattle.edits.proofs.run_call.Statement.{statement}
 use Rattle.edits.proofs.run_call.Tie as tie
 
 add-model-requires : tie.Need-add-model-requires
 add-model-requires c κs = search (needs, at-code)
-
-add-atom-requires : tie.Need-add-atom-requires
-add-atom-requires c κs = search (needs, at-code)
 
 remove-chain-by-id-requires : tie.Need-remove-chain-by-id-requires
 remove-chain-by-id-requires c κs = search (needs, at-code)
@@ -33,20 +29,18 @@ remove-empty-requires c κs = search (needs, at-code)
 
 remove-at-requires : tie.Need-remove-at-requires
 remove-at-requires c κs =
-    let none = c .before .before .before .match .rest in
-    let l = codes-position (c .before .before .before .before .before .before .before .args .code) (c .before .before .if1 .left) (none .0 .0 .0 .0 .0 .0 .0 .1) (none .0 .0 .0 .0 .0 .0 .1) in
-    (search needs, (search needs, (l, search needs)))
+    (search needs, (search needs, (c .before .before .if1 .left, search needs)))
 
 join-requires : tie.Need-join-requires
 join-requires c κs =
     let start = c .before .before .before .before .before .before in
-    let known = read (start .args .code) (start .args .words .now) (start .pre .1 .0) .low in
+    let known = read (start .args .code) (start .args .words .now) (start .pre .1 .1 .0) .low in
     let none = c .before .before .match .rest in
     let later = codes-join (start .args .code) in (
       search needs,
       (
         search needs,
-        ⊎-elim (λ w. absurd (omega (arith, known, w .taken)))
+        ⊎-elim (λ w. absurd (codes-none (start .args .code) known (w .taken) (none .0 .0 .0 .0 .0 .0 .1) (start .pre .1 .0)))
             (λ w. later (w .1 .left) (none .0 .0 .0 .0 .0 .1) (none .0 .0 .0 .0 .1) (none .0 .0 .0 .1) (none .0 .0 .1) (none .0 .1) (none .1)) (c .before .if1 .came),
       ),
     )
@@ -105,18 +99,11 @@ same-length-9 c = search needs
 returns-9 : tie.Need-returns-9
 returns-9 c = search (needs, of-code)
 
-same-length-10 : tie.Need-same-length-10
-same-length-10 c = search needs
-
-returns-10 : tie.Need-returns-10
-returns-10 c = search (needs, of-code)
-
 pub run-call-spec : {M : Type 1} → statement M
 run-call-spec =
     tie.close
     (tie.spec
     add-model-requires
-    add-atom-requires
     remove-chain-by-id-requires
     remove-residue-by-id-requires
     remove-conformer-by-id-requires
@@ -142,6 +129,4 @@ run-call-spec =
     same-length-8
     returns-8
     same-length-9
-    returns-9
-    same-length-10
-    returns-10)
+    returns-9)

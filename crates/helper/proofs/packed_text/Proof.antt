@@ -4,11 +4,11 @@ use borrow.Author.Needs.{needs}
 use Rattle.helper.proofs.packed_text.Statement.{statement}
 use Rattle.helper.proofs.packed_text.Tie as tie
 
-tidy-word-requires : tie.Need-tidy-word-requires
-tidy-word-requires c κs = search needs
+tidy-text-requires : tie.Need-tidy-text-requires
+tidy-text-requires c κs = search needs
 
 returns : tie.Need-returns
 returns c = search (needs, packed-text)
 
 pub packed-text-spec : {M : Type 1} → statement M
-packed-text-spec = tie.close (tie.spec tidy-word-requires returns)
+packed-text-spec = tie.close (tie.spec tidy-text-requires returns)

@@ -4,8 +4,8 @@ use borrow.Author.Needs.{needs}
 use Rattle.helper.proofs.stored_chain_id.Statement.{statement}
 use Rattle.helper.proofs.stored_chain_id.Tie as tie
 
-tidy-word-requires : tie.Need-tidy-word-requires
-tidy-word-requires c κs = search needs
+tidy-text-requires : tie.Need-tidy-text-requires
+tidy-text-requires c κs = search needs
 
 both-requires : tie.Need-both-requires
 both-requires c κs = search needs
@@ -14,4 +14,4 @@ returns : tie.Need-returns
 returns c = search (needs, chain-stored)
 
 pub stored-chain-id-spec : {M : Type 1} → statement M
-stored-chain-id-spec = tie.close (tie.spec tidy-word-requires both-requires returns)
+stored-chain-id-spec = tie.close (tie.spec tidy-text-requires both-requires returns)

@@ -4,6 +4,12 @@ use Rattle.store.proofs.Laws.{atom-record}
 use Rattle.store.proofs.good_atom.Statement.{statement}
 use Rattle.store.proofs.good_atom.Tie as tie
 
+shared-slice-read-stored-atom-name : tie.Need-shared-slice-read-stored-atom-name
+shared-slice-read-stored-atom-name c = search needs
+
+stored-atom-name-requires : tie.Need-stored-atom-name-requires
+stored-atom-name-requires c κs = search needs
+
 finite-words-requires : tie.Need-finite-words-requires
 finite-words-requires c κs = search needs
 
@@ -22,12 +28,6 @@ both-requires-2 c κs = search needs
 shared-slice-read-both-3 : tie.Need-shared-slice-read-both-3
 shared-slice-read-both-3 c = search needs
 
-shared-slice-read-stored-atom-name : tie.Need-shared-slice-read-stored-atom-name
-shared-slice-read-stored-atom-name c = search needs
-
-stored-atom-name-requires : tie.Need-stored-atom-name-requires
-stored-atom-name-requires c κs = search needs
-
 both-requires-3 : tie.Need-both-requires-3
 both-requires-3 c κs = search needs
 
@@ -43,14 +43,14 @@ pub good-atom-spec : {M : Type 1} → statement M
 good-atom-spec =
     tie.close
     (tie.spec
+    shared-slice-read-stored-atom-name
+    stored-atom-name-requires
     finite-words-requires
     shared-slice-read-both
     both-requires
     shared-slice-read-both-2
     both-requires-2
     shared-slice-read-both-3
-    shared-slice-read-stored-atom-name
-    stored-atom-name-requires
     both-requires-3
     both-requires-4
     returns)

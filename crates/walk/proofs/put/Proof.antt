@@ -1,7 +1,9 @@
 -- `walk::put` meets its contract: five stores write five words. Assumes nothing.
 use borrow.Author.Needs.{needs}
+use Prim.Native.Nat.{_*_}
 use native.Mathlib.Omega.{arith}
 use lib.ListN.{length-set}
+use Rattle.search.specs.Levels.{numbersIn}
 use Rattle.walk.proofs.Laws.{put-law}
 use Rattle.walk.proofs.put.Statement.{statement}
 use Rattle.walk.proofs.put.Tie as tie
@@ -9,11 +11,17 @@ use Rattle.walk.proofs.put.Tie as tie
 mul-word : tie.Need-mul-word
 mul-word c = search needs
 
+element-copy-out-out : tie.Need-element-copy-out-out
+element-copy-out-out c = search needs
+
 mul-out : tie.Need-mul-out
 mul-out c = search needs
 
 slice-write-out : tie.Need-slice-write-out
 slice-write-out c = search needs
+
+element-copy-out-out-2 : tie.Need-element-copy-out-out-2
+element-copy-out-out-2 c = search needs
 
 add-out : tie.Need-add-out
 add-out c = search needs
@@ -24,6 +32,9 @@ mul-out-2 c = search needs
 slice-write-out-2 : tie.Need-slice-write-out-2
 slice-write-out-2 c = simp length-set (omega arith)
 
+element-copy-out-out-3 : tie.Need-element-copy-out-out-3
+element-copy-out-out-3 c = search needs
+
 add-out-2 : tie.Need-add-out-2
 add-out-2 c = search needs
 
@@ -33,6 +44,9 @@ mul-out-3 c = search needs
 slice-write-out-3 : tie.Need-slice-write-out-3
 slice-write-out-3 c = simp length-set (omega arith)
 
+element-copy-out-out-4 : tie.Need-element-copy-out-out-4
+element-copy-out-out-4 c = search needs
+
 add-out-3 : tie.Need-add-out-3
 add-out-3 c = search needs
 
@@ -41,6 +55,9 @@ mul-out-4 c = search needs
 
 slice-write-out-4 : tie.Need-slice-write-out-4
 slice-write-out-4 c = simp length-set (omega arith)
+
+element-copy-out-out-5 : tie.Need-element-copy-out-out-5
+element-copy-out-out-5 c = search needs
 
 add-out-4 : tie.Need-add-out-4
 add-out-4 c = search needs
@@ -55,24 +72,29 @@ same-length : tie.Need-same-length
 same-length c = search needs
 
 returns : tie.Need-returns
-returns c = put-law _ _ _ (c .pre)
+returns c = let s = c .before .before .before .before .before in put-law (s .args .out .now) (s .args .hit * 5) (numbersIn (s .args .at .now)) (s .pre)
 
 pub put-spec : {M : Type 1} → statement M
 put-spec =
     tie.close
     (tie.spec
     mul-word
+    element-copy-out-out
     mul-out
     slice-write-out
+    element-copy-out-out-2
     add-out
     mul-out-2
     slice-write-out-2
+    element-copy-out-out-3
     add-out-2
     mul-out-3
     slice-write-out-3
+    element-copy-out-out-4
     add-out-3
     mul-out-4
     slice-write-out-4
+    element-copy-out-out-5
     add-out-4
     mul-out-5
     slice-write-out-5

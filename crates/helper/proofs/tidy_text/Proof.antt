@@ -1,0 +1,46 @@
+-- `helper::tidy_text` is `tidy` of eight bytes in any case: one byte to a turn. The measure is the worth of a byte. Assumes nothing.
+use Rattle.helper.proofs.Stored.{TextLeft, text-begin, text-unit, text-less, text-again, text-not, text-done}
+use borrow.Author.Needs.{needs}
+use Rattle.helper.proofs.tidy_text.Statement.{statement}
+use Rattle.helper.proofs.tidy_text.Tie as tie
+
+abbrev Inv-loop : tie.InvT-loop
+Inv-loop low w rest₀ unit₀ rest unit = TextLeft low w rest unit
+
+abbrev μ-loop : tie.MeasureT-loop
+μ-loop low w rest₀ unit₀ rest unit = unit
+
+loop-holds : tie.Need-loop-holds Inv-loop μ-loop
+loop-holds c = search (needs, text-begin)
+
+tidy-byte-requires : tie.Need-tidy-byte-requires Inv-loop μ-loop
+tidy-byte-requires c κs = search needs
+
+rem-rest : tie.Need-rem-rest Inv-loop μ-loop
+rem-rest c = search (needs, text-unit)
+
+loop-less : tie.Need-loop-less Inv-loop μ-loop
+loop-less c = search (needs, text-less)
+
+loop-again : tie.Need-loop-again Inv-loop μ-loop
+loop-again c = search (needs, text-again)
+
+returns : tie.Need-returns Inv-loop μ-loop
+returns c = search (needs, text-not)
+
+returns-2 : tie.Need-returns-2 Inv-loop μ-loop
+returns-2 c = search (needs, text-done)
+
+pub tidy-text-spec : {M : Type 1} → statement M
+tidy-text-spec =
+    tie.close
+    (tie.spec
+    Inv-loop
+    μ-loop
+    loop-holds
+    tidy-byte-requires
+    rem-rest
+    loop-less
+    loop-again
+    returns
+    returns-2)
