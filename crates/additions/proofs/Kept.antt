@@ -9,7 +9,7 @@ use lib.ListN.{length, take, drop, getD, length-append, length-drop}
 use lib.Seq.{take-append-add, drop-append-le, drop-append-add}
 use lib.Dec.{ltb, eqb}
 use borrow.Author.Tests.{lt-ltb, le-ltb, ltb-true, eqb-true, eq-eqb, ne-eqb}
-use Rattle.machine.specs.Text.{matchesOptional}
+use Rattle.machine.specs.Text.{matchesOptional, optionalOf}
 use Rattle.machine.specs.Record.{Words, words, kind}
 use Rattle.machine.specs.Store.{recordsOf, chunks}
 use Rattle.machine.specs.Store as Store
@@ -20,7 +20,7 @@ use Rattle.laws.specs.Layout.{read-parts}
 use Rattle.seek.specs.Seek.{held, Good, Within, recordAt, between, run, child, childSpan, span, spanOf}
 use Rattle.seek.specs.Below.{chunks-take}
 use Rattle.seek.specs.declared.Span as Span
-use Rattle.additions.specs.Add.{optionalOf, keyOf, marks, pickSpan, column}
+use Rattle.additions.specs.Add.{keyOf, marks, pickSpan, column}
 use Rattle.additions.specs.Place.{rank, chainKey, Ranked, Kept, Known, Lands, Grown, Moves}
 use Rattle.additions.specs.declared.NewAtom as Values
 use Rattle.additions.specs.declared.Names as Names

@@ -7,7 +7,7 @@ use lib.ListN.{length, getD, drop, set, replicate}
 use lib.Dec.{eqb}
 use Rattle.machine.specs.Lists.{andThen}
 use Rattle.machine.specs.Answer.{Result, ok, refused, _>>=_}
-use Rattle.machine.specs.Text.{Optional, matchesOptional}
+use Rattle.machine.specs.Text.{Optional, matchesOptional, optionalOf}
 use Rattle.machine.specs.Store.{Machine}
 use Rattle.machine.specs.Record.{Atom, Words, words, kind}
 use Rattle.machine.specs.Edit.{NewAtom, Prepare, Change, Which, first, last, pick, position, branchAt, replaceAt, intoChains, fits}
@@ -39,9 +39,6 @@ atomOf v name =
       charge = v .charge;
       hetero = v .hetero;
     }
-
-abbrev pub optionalOf : ℕ → List ℕ → Optional
-optionalOf flag text = record { flag = flag; text = text }
 
 abbrev pub given : List ℕ → ℕ → Optional → List ℕ → Optional → List ℕ → Values.NewAtom → NewAtom
 given chain residue code conformer location name v =

@@ -1,18 +1,19 @@
 // Additions (document 01, "Edits"): a model, and an atom with what is missing above it. The store is known to be good; new records go in
-// by one move of the words behind them. A refusal writes nothing. Additions in file order go where the last one went: a `Place` says where
-// that is, so that they scan nothing but the residue's conformers.
+// by one move of the words behind them. A refusal writes nothing. Additions in file order mostly go where the last one went: a `Place` says
+// where that is, and saves the scans of the model and of the chain.
 ghost use mathlib.Core.Path.{_≡_};
 ghost use mathlib.Core.Bool.{true, false};
 ghost use Prim.Native.Nat.{_+_, _*_, _≤_, _<_};
 ghost use lib.ListN.{length};
 ghost use Rattle.machine.specs.Answer.{editedNumbers};
+ghost use Rattle.machine.specs.Text.{optionalOf};
 ghost use Rattle.machine.specs.Record.{goodValues};
 ghost use Rattle.machine.specs.Store.{capacity};
 ghost use mathlib.Core.List.{[], _∷_};
 ghost use mathlib.Core.Option.{some};
 ghost use Rattle.machine.specs.Edit.{prepare, addModel, addAtom, relaid};
 ghost use Rattle.seek.specs.Seek.{Good, Within, held, recordAt, between, span, spanOf};
-ghost use Rattle.additions.specs.Add.{atomOf, optionalOf, given, named, wordOf, preparedOf, resultOf, keyOf, marks, pickStart, pickSpan, childOf, spotIn, keysOf, foundOf, columnWords, put, intoModel};
+ghost use Rattle.additions.specs.Add.{atomOf, given, named, wordOf, preparedOf, resultOf, keyOf, marks, pickStart, pickSpan, childOf, spotIn, keysOf, foundOf, columnWords, put, intoModel};
 ghost use Rattle.additions.specs.Place.{rank, Known, Lands, Moves};
 use machine::Edited;
 use machine::Prepared;

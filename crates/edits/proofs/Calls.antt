@@ -13,7 +13,7 @@ use Rattle.seek.specs.Seek.{held, Good}
 use Rattle.removals.specs.Removal.{removal, edited}
 use Rattle.removals.specs.Named.{atomBySerialNumber}
 use Rattle.joins.specs.Join.{join}
-use Rattle.steps.specs.Steps.{stepped}
+use Rattle.store.specs.Steps.{stepped}
 use Rattle.calls.specs.Counted.{isSome}
 use Rattle.calls.specs.Format.{numbersIn, partsIn, readParts, callOf, readCall}
 use Rattle.edits.specs.Apply.{stepOf}

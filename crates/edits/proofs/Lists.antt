@@ -23,7 +23,7 @@ use Rattle.seek.specs.Seek.{Good}
 use Rattle.store.specs.Store.{checkedBy}
 use Rattle.store.specs.Laws.{refused-store}
 use Rattle.store.specs.declared.Checked as Checked
-use Rattle.steps.specs.Steps.{step-good}
+use Rattle.store.specs.Steps.{step-good}
 use Rattle.calls.specs.Counted.{isSome, countedOf}
 use Rattle.calls.specs.declared.Counted as Counted
 use Rattle.calls.specs.Format.{readCall, readCalls}

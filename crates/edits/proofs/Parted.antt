@@ -6,11 +6,12 @@ use mathlib.Core.List.{List, _∷_}
 use native.Mathlib.Omega.{arith}
 use lib.ListN.{length, getD, take, drop}
 use Rattle.machine.specs.Lists.{all}
+use Rattle.machine.specs.Text.{optionalOf}
 use Rattle.machine.specs.Edit.{addAtom, removeAtomsBy, relaid, machineStep}
 use Rattle.seek.specs.Seek.{held, Good}
 use Rattle.removals.specs.Removal.{edited}
 use Rattle.removals.specs.Named.{chainById, residueById, conformerById}
-use Rattle.additions.specs.Add.{given, optionalOf}
+use Rattle.additions.specs.Add.{given}
 use Rattle.additions.specs.declared.NewAtom as Values
 use Rattle.calls.specs.Counted.{isSome}
 use Rattle.calls.specs.Format.{isByte, callOf, readCall}

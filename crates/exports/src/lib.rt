@@ -2,12 +2,13 @@
 // are given by their bits.
 ghost use mathlib.Core.Path.{_≡_};
 ghost use mathlib.Core.List.{[], _∷_};
+ghost use Rattle.machine.specs.Text.{optionalOf};
 ghost use Rattle.machine.specs.Store.{readStore, openRun};
 ghost use Rattle.machine.specs.Find.{findRun};
 ghost use Rattle.machine.specs.Edit as Calls;
 ghost use Rattle.machine.specs.Edit.{storeStep};
 ghost use Rattle.machine.specs.Lookup.{lookupRun};
-ghost use Rattle.additions.specs.Add.{given, optionalOf};
+ghost use Rattle.additions.specs.Add.{given};
 ghost use Rattle.answers.specs.Fields.{editFields, findFields, lookupFields};
 ghost use Rattle.copies.specs.Copy.{copyRun};
 ghost use Rattle.edits.specs.Apply.{appliedNumbers, ran, applyRun};

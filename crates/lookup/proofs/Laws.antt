@@ -9,7 +9,7 @@ use lib.ListN.{length, length-append}
 use borrow.Author.Tests.{le-leb, lt-leb}
 use Rattle.machine.specs.Lists.{bind, andThen}
 use Rattle.machine.specs.Answer.{ok, lookedUpNumbers}
-use Rattle.machine.specs.Text.{Optional}
+use Rattle.machine.specs.Text.{Optional, optionalOf}
 use Rattle.machine.specs.Record.{Words, words}
 use Rattle.machine.specs.Store.{Branch, flat, records, group}
 use Rattle.machine.specs.Find.{size}
@@ -22,7 +22,7 @@ use Rattle.seek.specs.Seek.{Good, Within, held, between, run, spanOf}
 use Rattle.seek.specs.Below.{under, flat-root}
 use Rattle.seek.specs.Laws.{whole-within, whole-records}
 use Rattle.seek.specs.declared.Span as Span
-use Rattle.lookup.specs.Level.{asGiven, wanted, answer, firstWanted, Level, spanWanted}
+use Rattle.lookup.specs.Level.{wanted, answer, firstWanted, Level, spanWanted}
 use Rattle.lookup.proofs.Scan.{next, part, none-left}
 
 -- ---- a branch that is found
@@ -136,7 +136,7 @@ first w g count c n stop e =
 
 module _ (w : List ℕ) (serial flag : ℕ) (text : List ℕ) where
   abbrev o : Optional
-  o = asGiven flag text
+  o = optionalOf flag text
 
   pub bad-flag : 1 < flag → lookedUpNumbers (Refused BadIdentifier) ≡ answer serial o (held w)
   bad-flag l = rw (lt-leb flag 1 l)

@@ -9,14 +9,14 @@ use lib.Seq.{getD-take, getD-drop, drop-drop, drop-append-le}
 use lib.Dec.{leb, eqb}
 use borrow.Author.Tests.{le-leb, lt-leb, eq-eqb, ne-eqb}
 use Rattle.machine.specs.Lists.{any, lastOf}
-use Rattle.machine.specs.Text.{matchesOptional}
+use Rattle.machine.specs.Text.{matchesOptional, optionalOf}
 use Rattle.machine.specs.Record.{Words, kind}
 use Rattle.machine.specs.Store.{chunks}
 use Rattle.machine.specs.Lookup.{spans}
 use Rattle.laws.specs.Grouped.{chunks-length}
 use Rattle.seek.specs.Seek.{Within, recordAt, between}
 use Rattle.seek.specs.Below.{between-cons, between-nil, record-kind}
-use Rattle.lookup.specs.Level.{asGiven, atomSerials, wantedRecords}
+use Rattle.lookup.specs.Level.{atomSerials, wantedRecords}
 
 pub record-word : (w : List ℕ) (at i : ℕ) → i < 12 → getD (recordAt at w) i 0 ≡ getD w (at * 12 + i) 0
 record-word w at i l = getD-take 12 (drop (at * 12) w) i 0 l ∙ getD-drop (at * 12) w i 0
@@ -145,13 +145,13 @@ module _ (w : List ℕ) (from end first at : ℕ) (s : Left w from end first at)
 
 module _ (w : List ℕ) (at stop serial flag : ℕ) (text : List ℕ) where
   abbrev asked : ℕ → Bool → Type 0
-  asked level r = r ≡ wantedRecords level serial (asGiven flag text) (recordAt at w) (between (at + 1) stop w)
+  asked level r = r ≡ wantedRecords level serial (optionalOf flag text) (recordAt at w) (between (at + 1) stop w)
 
   pub wanted-atom : (level : ℕ) → level ≡ 0 → asked level (eqb serial (getD w (at * 12 + 1) 0))
   unfolding wantedRecords
   wanted-atom level e = rw (e, record-word w at 1 (omega arith))
 
-  module _ (level : ℕ) (e : level ≡ 1) (a : Bool) (f : a ≡ matchesOptional (asGiven flag text) (getD w (at * 12 + 2) 0)) where
+  module _ (level : ℕ) (e : level ≡ 1) (a : Bool) (f : a ≡ matchesOptional (optionalOf flag text) (getD w (at * 12 + 2) 0)) where
     pub wanted-elsewhere : a ≡ false → asked level false
     unfolding wantedRecords
     wanted-elsewhere x = rw (e, record-word w at 2 (omega arith), ← f, x)

@@ -19,9 +19,6 @@ use Rattle.seek.specs.Seek.{Within, between}
 -- ---- over the machine
 
 -- an optional text as given
-abbrev pub asGiven : ℕ → List ℕ → Optional
-asGiven flag text = record { flag = flag; text = text }
-
 -- chains and residues are asked for a span, a conformer for its location and an atom too, an atom for its serial
 unfoldable pub wanted : (k : ℕ) → ℕ → Optional → Branch k → Bool
 wanted zero serial o a = eqb serial (a .serial)

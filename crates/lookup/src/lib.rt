@@ -5,9 +5,10 @@ ghost use Prim.Native.Nat.{_+_};
 ghost use lib.Dec.{eqb};
 ghost use Rattle.machine.specs.Lists.{any, lastOf};
 ghost use Rattle.machine.specs.Answer.{lookedUpNumbers};
+ghost use Rattle.machine.specs.Text.{optionalOf};
 ghost use Rattle.machine.specs.Lookup.{spans};
 ghost use Rattle.seek.specs.Seek.{Good, Within, held, recordAt, between, spanOf};
-ghost use Rattle.lookup.specs.Level.{asGiven, answer, Level, spanWanted, atomSerials, wantedRecords};
+ghost use Rattle.lookup.specs.Level.{answer, Level, spanWanted, atomSerials, wantedRecords};
 use machine::LookedUp;
 use machine::RecordNumbers;
 use machine::Refusal;
@@ -81,7 +82,7 @@ fn is_wanted(
     location: &[u8],
 ) -> bool
     requires { ⌜ Within (at + 1) stop (now store) ⌝ }
-    ensures { λ r. ⌜ r ≡ wantedRecords level serial (asGiven flag (now (location .entry))) (recordAt at (now (store .entry))) (between (at + 1) stop (now (store .entry))) ⌝ }
+    ensures { λ r. ⌜ r ≡ wantedRecords level serial (optionalOf flag (now (location .entry))) (recordAt at (now (store .entry))) (between (at + 1) stop (now (store .entry))) ⌝ }
 {
     let word = at * Record::WIDTH;
     if level == 0 {
@@ -110,7 +111,7 @@ fn first_in(
     location: &[u8],
 ) -> Span
     requires { ⌜ Level level (parent + 1) end (now store) ⌝ }
-    ensures { λ r. ⌜ r ≡ spanOf (spanWanted level serial (asGiven flag (now (location .entry))) (parent + 1) end (now (store .entry))) ⌝ }
+    ensures { λ r. ⌜ r ≡ spanOf (spanWanted level serial (optionalOf flag (now (location .entry))) (parent + 1) end (now (store .entry))) ⌝ }
 {
     let mut at: usize = parent + 1;
     while at < end {
@@ -127,7 +128,7 @@ fn first_in(
 // none." There is no going back: what a level takes is all that the next looks into.
 pub fn binary_find_atom(store: &[u64], serial: u64, flag: u64, location: &[u8]) -> LookedUp
     requires { ⌜ Good (now store) ⌝ }
-    ensures { λ r. ⌜ lookedUpNumbers r ≡ answer serial (asGiven flag (now (location .entry))) (held (now (store .entry))) ⌝ }
+    ensures { λ r. ⌜ lookedUpNumbers r ≡ answer serial (optionalOf flag (now (location .entry))) (held (now (store .entry))) ⌝ }
 {
     if 1 < flag {
         return LookedUp::Refused(Refusal::BadIdentifier);

@@ -91,6 +91,9 @@ pub record Optional : Type 0 where
   pub flag : ℕ
   pub text : List ℕ
 
+abbrev pub optionalOf : ℕ → List ℕ → Optional
+optionalOf flag text = record { flag = flag; text = text }
+
 abbrev pub goodFlag : Optional → Bool
 goodFlag o = leb (o .flag) 1
 

@@ -1,3 +1,4 @@
 pub mod Levels
 pub mod Nodes
 pub mod Value
+pub mod Laws

@@ -29,6 +29,7 @@ use Rattle.seek.specs.Laws.{Stands, found, missing}
 use Rattle.seek.specs.declared.Span as Span
 use Rattle.search.specs.Levels as Levels
 use Rattle.search.specs.Nodes.{checked}
+use Rattle.search.specs.Laws.{tree-then, tree-refused}
 use Rattle.search.specs.declared.CheckedTree as CheckedTree
 use Rattle.prunings.specs.Prune.{Laid, Compacted, kept}
 use Rattle.prunings.specs.Words.{compact-start, compact-skip, compact-keep, below-within, atoms-gap, atoms-laid, atoms-removed}
@@ -105,14 +106,6 @@ module _ (p : Words → Bool) (from end : ℕ) (w : List ℕ) (h : Within from e
 -- ---- `remove_atoms_by`
 
 -- what follows the tree's check
-tree-then : {b : Result Change} (r : Result (List Node)) → checked r ≡ CheckedTree.the-variants.Good → (r >> b) ≡ b
-tree-then (ok ns) e = refl
-tree-then (refused c) e = let z : _≡_ {A = ℕ} 0 1 = cc in absurd (omega arith)
-
-tree-refused : (r : Result (List Node)) (c : Refusal) → checked r ≡ CheckedTree.the-variants.Refused c → r ≡ refused c
-tree-refused (ok ns) c e = let z : _≡_ {A = ℕ} 0 1 = cc in absurd (omega arith)
-tree-refused (refused d) c e = cc
-
 module _ (w : List ℕ) (i : ℕ) (g : Good w) (r : Span.Span) (e : r ≡ spanOf (span (i ∷ []) (held w))) where
   pub by-missing : (tree : List ℕ) → r ≡ Span.the-variants.Missing → _≡_ {A = List ℕ × List ℕ} (editedNumbers (Edited.Refused NoPosition), w) (relaid w (held w) (removeAtomsBy i tree (held w)))
   unfolding removeAtomsBy
@@ -146,4 +139,4 @@ module _ (w : List ℕ) (i : ℕ) (g : Good w) (r : Span.Span) (e : r ≡ spanOf
       by-done t h q v u =
           let l = atoms-laid w g i start stop there (spared tables tree) to s among v u in
           let n = atoms-removed w g i start stop there (spared tables tree) to s among in
-          rw (there .there, tree-then (readTree tree) (sym h ∙ q), n, l)
+          rw (there .there, tree-then (readTree tree) _ (sym h ∙ q), n, l)

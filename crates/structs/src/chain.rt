@@ -1,8 +1,8 @@
 // After chain.rs.
 ghost use mathlib.Core.Path.{_≡_};
 ghost use Rattle.machine.specs.Answer.{editedNumbers};
+ghost use Rattle.machine.specs.Text.{optionalOf};
 ghost use Rattle.machine.specs.Edit.{storeStep, RemoveResidue, RemoveResidueById, JoinChains};
-ghost use Rattle.additions.specs.Add.{optionalOf};
 use super::positions;
 use machine::Edited;
 use store::Checked;

@@ -1,8 +1,9 @@
 // After model.rs.
 ghost use mathlib.Core.Path.{_≡_};
 ghost use Rattle.machine.specs.Answer.{editedNumbers};
+ghost use Rattle.machine.specs.Text.{optionalOf};
 ghost use Rattle.machine.specs.Edit.{storeStep, AddAtom, RemoveChain, RemoveChainById, RemoveAtomsBy, RemoveEmpty, JoinModels};
-ghost use Rattle.additions.specs.Add.{given, optionalOf};
+ghost use Rattle.additions.specs.Add.{given};
 use super::positions;
 use additions::NewAtom;
 use machine::Edited;

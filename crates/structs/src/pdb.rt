@@ -1,11 +1,11 @@
 // After pdb.rs.
 ghost use mathlib.Core.Path.{_≡_};
 ghost use Rattle.machine.specs.Answer.{openedNumbers, editedNumbers, foundNumbers, lookedUpNumbers};
+ghost use Rattle.machine.specs.Text.{optionalOf};
 ghost use Rattle.machine.specs.Store.{openRun};
 ghost use Rattle.machine.specs.Edit.{storeStep, AddModel};
 ghost use Rattle.machine.specs.Find.{findRun};
 ghost use Rattle.machine.specs.Lookup.{lookupRun};
-ghost use Rattle.lookup.specs.Level.{asGiven};
 use machine::Edited;
 use machine::Found;
 use machine::LookedUp;
@@ -39,7 +39,7 @@ pub fn find(store: &[u64], tree: &[u64], out: &mut [u64]) -> Found
 
 // "Lookup (serial, alternative location as given) in the first model"
 pub fn binary_find_atom(store: &[u64], serial: u64, flag: u64, location: &[u8]) -> LookedUp
-    ensures { λ r. ⌜ lookedUpNumbers r ≡ lookupRun (now (store .entry)) serial (asGiven flag (now (location .entry))) ⌝ }
+    ensures { λ r. ⌜ lookedUpNumbers r ≡ lookupRun (now (store .entry)) serial (optionalOf flag (now (location .entry))) ⌝ }
 {
     let checked = store::check(store);
     match checked {

@@ -30,6 +30,7 @@ use Rattle.store.specs.Store.{checkedBy}
 use Rattle.store.specs.Laws.{Held, good-store, refused-find}
 use Rattle.store.specs.declared.Checked as Checked
 use Rattle.search.specs.Nodes.{checked}
+use Rattle.search.specs.Laws.{tree-then, tree-refused}
 use Rattle.search.specs.declared.CheckedTree as CheckedTree
 use Rattle.search.specs.Levels.{numbersIn, Inside}
 use Rattle.walk.specs.Walk.{five, pick, enteredAt, valueBy, Sure, Turned, foundIn, wrote, Levelled, UpTo, Ready, Asked, start}
@@ -329,14 +330,6 @@ hits-five names t m =
     let e = words-five (those p (atomsOf m)) (those-all _ p (atomsOf m) (five-numbers m)) in
     simp length-map e
 
-tree-then : {A : Type 0} (x : Result (List Node)) (y : Result A) → checked x ≡ CheckedTree.the-variants.Good → (x >> y) ≡ y
-tree-then (ok ns) y e = refl
-tree-then (refused r) y e = let z : _≡_ {A = ℕ} 0 1 = cc in absurd (omega arith)
-
-tree-refused : {A : Type 0} {c : Refusal} (x : Result (List Node)) (y : Result A) → checked x ≡ CheckedTree.the-variants.Refused c → (x >> y) ≡ refused c
-tree-refused (ok ns) y e = let z : _≡_ {A = ℕ} 0 1 = cc in absurd (omega arith)
-tree-refused (refused r) y e = cc
-
 -- find, by the answers of its parts
 module _ (w t : List ℕ) where
   pub no-store : (out : List ℕ) {c : Refusal} (r : Checked.Checked) → r ≡ checkedBy (readStore w) → r ≡ Checked.the-variants.Refused c
@@ -352,7 +345,7 @@ module _ (w t : List ℕ) where
 
     pub no-tree : (out : List ℕ) {c : Refusal} → x ≡ CheckedTree.the-variants.Refused c → (foundNumbers (Found.the-variants.Refused c), out) ≡ findRun w t out
     unfolding findRun hitsOf
-    no-tree out h = rw (is-held .read, tree-refused (readTree t) (ok (hitsIn tables t (held w))) (sym g ∙ h))
+    no-tree out h = rw (is-held .read, tree-refused (readTree t) _ (sym g ∙ h))
 
   module _ (out : List ℕ) (total : ℕ) (asked : Asked w t total) (residues atoms : List ℕ) (one : residues ≡ tables .residues) (two : atoms ≡ tables .atoms) (room : ℕ) (is : room ≡ length out / 5) (b : Bool) (has : b ≡ leb (length (hitsIn (record { residues = residues; atoms = atoms }) t (held w))) room) where
     all : List (List ℕ)

@@ -1,7 +1,7 @@
 -- `additions::put_atom` meets its contract: each return is a law's. Assumes nothing.
+use Rattle.machine.specs.Text.{optionalOf}
 use Rattle.additions.proofs.Laws.{good-length, good-count, chains-within, model-few, atom-at, atom-room, atom-full, atom-done, atom-moved}
 use native.Mathlib.Omega.{arith}
-use Rattle.additions.specs.Add.{optionalOf}
 use borrow.Author.Needs.{needs}
 use Rattle.additions.proofs.put_atom.Statement.{statement}
 use Rattle.additions.proofs.put_atom.Tie as tie

@@ -1,13 +1,13 @@
 -- `lookup::first_in` meets its contract. The loop keeps `Looked`, and the records left fall. Assumes nothing.
 use Prim.Native.Nat.{_+_, _-_}
-use Rattle.lookup.specs.Level.{asGiven}
+use Rattle.machine.specs.Text.{optionalOf}
 use Rattle.lookup.proofs.Scan.{Looked, looked-begin, looked-end, looked-within, looked-here, looked-on, looked-less}
 use borrow.Author.Needs.{needs}
 use Rattle.lookup.proofs.first_in.Statement.{statement}
 use Rattle.lookup.proofs.first_in.Tie as tie
 
 abbrev Inv-loop : tie.InvT-loop
-Inv-loop store parent end level serial flag location at₀ at = Looked level serial (asGiven flag location) store (parent + 1) end at
+Inv-loop store parent end level serial flag location at₀ at = Looked level serial (optionalOf flag location) store (parent + 1) end at
 
 abbrev μ-loop : tie.MeasureT-loop
 μ-loop store parent end level serial flag location at₀ at = end - at
