@@ -19,8 +19,8 @@ fn rows(residues: u64) -> [Vec<Row>; 2] {
     let pdb = structure::pdb(residues);
     let trees = find::trees().into_iter().filter(|t| TREES.contains(&t.name));
     let finds = trees.map(|t| {
-        let (port, of_crate, _) = find::times(&words, &pdb, &t.search, 30);
-        us(t.name, (port, of_crate))
+        let times = find::times(&words, &pdb, &t.search, 30);
+        us(t.name, (times.port, times.of_crate))
     });
     let chosen = edits::edits(residues).into_iter().filter(|e| EDITS.contains(&e.name));
     let edits = chosen.map(|e| us(e.name, edits::times(&words, &pdb, &e)));
