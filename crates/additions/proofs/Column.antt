@@ -2,75 +2,28 @@
 -- Assumes nothing.
 use Prim.Native.Nat.{ℕ, suc, _+_, _≤_, _<_}
 use mathlib.Core.Path.{_≡_, refl, sym, ap, _∙_}
-use mathlib.Core.Bool.{Bool, true, false, cond, _&&_}
+use mathlib.Core.Bool.{Bool, true, false, _&&_}
 use mathlib.Core.List.{List, [], _∷_, _++_, append-assoc, append-nil}
 use mathlib.Core.Option.{Option, none, some, Option·map}
-use native.Mathlib.Nat.{zero-add, suc-add}
+use native.Mathlib.Nat.{zero-add}
 use native.Mathlib.Omega.{arith}
 use lib.ListN.{length, take, drop, length-append, length-drop, take-append-drop}
 use lib.Seq.{take-at, drop-at, length-take-le}
 use lib.Dec.{eqb}
-use borrow.Author.Tests.{ne-eqb}
-use Rattle.machine.specs.Lists.{orElse, bind}
+use Rattle.machine.specs.Lists.{bind}
 use Rattle.machine.specs.Record.{Fields, Words, words, kind}
 use Rattle.machine.specs.Store.{Branch, Machine, flat, chunks}
-use Rattle.machine.specs.Edit.{NewAtom, Which, first, last, pick, root, upsert, newAtom, intoChains, replaceAt}
+use Rattle.machine.specs.Edit.{NewAtom, Prepare, Which, first, last, pick, root, upsert, newAtom, intoChains, replaceAt}
 use Rattle.laws.specs.Lists.{All, All-map, All-append, bind-append}
 use Rattle.laws.specs.Grouped.{words-kind, chunks-length}
 use Rattle.laws.specs.Scan.{Ends}
 use Rattle.laws.specs.Places.{Around, Spot}
 use Rattle.seek.specs.Seek.{between, run}
 use Rattle.seek.specs.Below.{chunks-take, run-over, flat-root, flat-kinds}
-use Rattle.additions.specs.Add.{Key, marks, pickSpan, spotIn, keysOf, preparedOf, atomOf, column}
-use Rattle.additions.specs.declared.Names as Names
-use Rattle.additions.specs.declared.NewAtom as Values
-
--- ---- the element that is picked
-
--- what is picked where the first element is marked or not, by what is picked of the others
-abbrev chosen : Which → Bool → Option ℕ → Option ℕ
-chosen first b o = cond b (some 0) (Option·map suc o)
-chosen last b o = orElse (Option·map suc o) (cond b (some 0) none)
-
-pub or-none : (o : Option ℕ) → orElse o none ≡ o
-or-none none = refl
-or-none (some x) = refl
-
-one-more : (w : Which) (b : Bool) (q : Option ℕ) (n : ℕ) → ((i : ℕ) → q ≡ some i → i < n) → (o : ℕ) → chosen w b q ≡ some o → o < suc n
-one-more first true q n f o e = let z : 0 ≡ o = cc in omega arith
-one-more first false none n f o e = let z : _≡_ {A = ℕ} 0 1 = cc in absurd (omega arith)
-one-more first false (some i) n f o e = let z : suc i ≡ o = cc in omega (arith, f i refl)
-one-more last b (some i) n f o e = let z : suc i ≡ o = cc in omega (arith, f i refl)
-one-more last true none n f o e = let z : 0 ≡ o = cc in omega arith
-one-more last false none n f o e = let z : _≡_ {A = ℕ} 0 1 = cc in absurd (omega arith)
-
-module _ {A : Type 0} (p : A → Bool) where
-  -- an element that is not marked
-  pub pick-pass : (w : Which) (x : A) (xs : List A) → p x ≡ false → pick w p (x ∷ xs) ≡ Option·map suc (pick w p xs)
-  pick-pass first x xs e = rw e
-  pick-pass last x xs e = rw e (or-none (Option·map suc (lastIn xs)))
-    where
-      lastIn : List A → Option ℕ
-      lastIn ys = pick last p ys
-
-  map-zero : (o : Option ℕ) → o ≡ Option·map (λ i. 0 + i) o
-  map-zero none = refl
-  map-zero (some x) = rw zero-add
-
-  map-suc : (n : ℕ) (o : Option ℕ) → Option·map suc (Option·map (λ i. n + i) o) ≡ Option·map (λ i. suc n + i) o
-  map-suc n none = refl
-  map-suc n (some x) = rw suc-add
-
-  pub pick-over : (w : Which) (b rest : List A) → All (λ x. p x ≡ false) b → pick w p (b ++ rest) ≡ Option·map (λ i. length b + i) (pick w p rest)
-  pick-over w [] rest h = map-zero (pick w p rest)
-  pick-over w (x ∷ b) rest h =
-      pick-pass w x (b ++ rest) (h .0) ∙ ap (Option·map suc) (pick-over w b rest (h .1)) ∙ map-suc (length b) (pick w p rest)
-
-  pub pick-within : (w : Which) (xs : List A) (o : ℕ) → pick w p xs ≡ some o → o < length xs
-  pick-within first [] o e = let z : _≡_ {A = ℕ} 0 1 = cc in absurd (omega arith)
-  pick-within last [] o e = let z : _≡_ {A = ℕ} 0 1 = cc in absurd (omega arith)
-  pick-within first (x ∷ xs) o e = one-more first (p x) (pick first p xs) (length xs) (pick-within first xs) o e
-  pick-within last (x ∷ xs) o e = one-more last (p x) (pick last p xs) (length xs) (pick-within last xs) o e
+use Rattle.places.specs.Pick.{Key, marks, pickSpan, spotIn}
+use Rattle.places.specs.Place.{column}
+use Rattle.places.proofs.Picks.{chosen, pick-over, unmarked}
+use Rattle.additions.specs.Add.{keysOf}
 
 -- ---- the records of branches below a record of kind h
 
@@ -227,9 +180,6 @@ puts-atom : (h : ℕ) (a : Branch 0) → Puts h 0 (λ ts. ts ++ (a ∷ [])) [] (
 unfolding flat spotIn
 puts-atom h a = record { alone = refl; among = λ w from end ts order e. ins-end 0 w from end ts a order e }
 
-pub unmarked : (h : ℕ) (key : Key) (r : Words) → h < kind r → marks h key r ≡ false
-unmarked h key r l = rw (ne-eqb (kind r) h (λ e. omega arith))
-
 -- one level more
 module _ (h k : ℕ) (level : h + k ≡ 4) (low : 1 ≤ h) (key : Key) (p : Fields (suc k) → Bool) (new : Fields (suc k))
     (f : List (Branch k) → List (Branch k)) (keys : List Key) (col : List Words) (finds : (d : Fields (suc k)) → marks h key (words (suc k) d) ≡ p d)
@@ -271,13 +221,12 @@ and-right true = refl
 and-right false = refl
 
 -- the three levels below a model
-pub puts-chains : (a : NewAtom) (n : Names.Names) (v : Values.NewAtom) → newAtom a (preparedOf n) ≡ atomOf v (n .name)
-    → Puts 2 3 (intoChains a (preparedOf n)) (keysOf n (a .residue) (a .code) (a .location)) (column n (a .residue) v)
+pub puts-chains : (a : NewAtom) (p : Prepare) → Puts 2 3 (intoChains a p) (keysOf p (a .residue) (a .code) (a .location)) (column p (a .residue) (newAtom a p))
 unfolding words
-puts-chains a n v e =
-    puts-level 2 2 refl (omega arith) _ _ _ _ _ _ (λ d. and-right (eqb (d .id) (n .chain)))
+puts-chains a p =
+    puts-level 2 2 refl (omega arith) _ _ _ _ _ _ (λ d. and-right (eqb (d .id) (p .chain)))
     (puts-level 3 1 refl (omega arith) _ _ _ _ _ _ (λ d. refl)
-    (puts-level 4 0 refl (omega arith) _ _ _ _ _ _ (λ d. refl) (rw e (puts-atom 5 (atomOf v (n .name))))))
+    (puts-level 4 0 refl (omega arith) _ _ _ _ _ _ (λ d. refl) (puts-atom 5 (newAtom a p))))
 
 -- in a machine whose model at a position has its children changed
 pub ins-machine : (i : ℕ) (m : Machine) (t : Branch 4) (cs : List (Branch 3)) (n at : ℕ) (new : List Words) (s : Spot 0 4 (i ∷ []) m t) → n ≡ length (s .pre) + 1

@@ -1,22 +1,20 @@
 -- What each loop keeps, and what each return gives. Assumes nothing.
-use Prim.Native.Nat.{ℕ, suc, _+_, _-_, _*_, _≤_, _<_}
+use Prim.Native.Nat.{ℕ, _+_, _-_, _*_, _≤_, _<_}
 use mathlib.Core.Path.{_≡_, refl, sym, ap, _∙_, subst}
 use mathlib.Core.Bool.{Bool, true, false, _&&_}
 use mathlib.Core.List.{List, [], _∷_, _++_, append-nil}
-use mathlib.Core.Option.{Option, none, some, Option·map}
-use native.Mathlib.Nat.{add-zero}
-use native.Mathlib.Numerals.{add-one}
+use mathlib.Core.Option.{some}
 use native.Mathlib.Omega.{arith}
-use lib.ListN.{length, take, drop, getD, set, replicate, length-append, length-take, length-drop, length-replicate}
-use lib.Seq.{take-at, drop-at, drop-drop, getD-take, getD-drop, length-take-le, take-all}
+use lib.ListN.{length, take, drop, set, replicate, length-append, length-take, length-drop, length-replicate}
+use lib.Seq.{take-at, drop-at, length-take-le, take-all}
 use lib.Dec.{leb}
-use borrow.Author.Tests.{eq-eqb, ne-eqb, le-leb, lt-leb}
-use Rattle.machine.specs.Lists.{orElse, bind, andThen}
+use borrow.Author.Tests.{le-leb, lt-leb}
+use Rattle.machine.specs.Lists.{bind}
 use Rattle.machine.specs.Answer.{ok, refused, editedNumbers}
-use Rattle.machine.specs.Text.{Optional, chainId, insertionCode, conformerName, alternativeLocation, atomName, optional, matchesOptional}
+use Rattle.machine.specs.Text.{Optional, chainId, insertionCode, conformerName, alternativeLocation, atomName, optional}
 use Rattle.machine.specs.Record.{Words, words, finite, goodValues}
-use Rattle.machine.specs.Store.{Branch, Machine, flat, records, stored, capacity, laid, layOut, chunks, recordsOf}
-use Rattle.machine.specs.Edit.{NewAtom, Which, first, last, pick, accept, prepare, intoChains, replaceAt, fits, addModel, addAtom, relaid}
+use Rattle.machine.specs.Store.{Branch, Machine, flat, records, stored, capacity, laid, layOut, recordsOf}
+use Rattle.machine.specs.Edit.{NewAtom, accept, prepare, intoChains, replaceAt, fits, addModel, addAtom, relaid}
 use Rattle.machine.specs.declared.Prepared.{Prepared}
 use Rattle.machine.specs.declared.Prepared.the-variants.{Stored, Absent, Bad}
 use Rattle.machine.specs.declared.Name.{Name}
@@ -24,26 +22,27 @@ use Rattle.machine.specs.declared.Name.the-variants.{ChainId, InsertionCode, Co
 use Rattle.machine.specs.declared.Refusal.the-variants.{NoPosition, BadIdentifier, BadValue, NoCapacity}
 use Rattle.machine.specs.declared.Edited as Edited
 use Rattle.laws.specs.Lists.{All-append, All-left, All-right, sum-append}
-use Rattle.laws.specs.Grouped.{concat, concat-length, twelve-words, chunks-length}
+use Rattle.laws.specs.Grouped.{concat, concat-length, twelve-words}
 use Rattle.laws.specs.Layout.{laid-length, layOut-read, recordsOf-layOut, read-length, read-parts, records-read, length-parts}
 use Rattle.moves.specs.Over.{over, gapped}
 use Rattle.moves.proofs.Laws.{over-at}
 use Rattle.moves.proofs.Records.{Twelve, twelve-take, twelve-drop, blank, blank-twelve, insert-laid, write-laid, drop-records}
-use Rattle.seek.specs.Seek.{held, Good, Within, recordAt, between, run, toEnd, isAtom, atomRecords, span, spanOf}
-use Rattle.seek.specs.Below.{between-cons, between-nil, record-kind}
+use Rattle.seek.specs.Seek.{held, Good, Within, between, isAtom, atomRecords, span, spanOf}
+use Rattle.seek.specs.Below.{between-cons}
 use Rattle.seek.specs.Laws.{records-count, atoms-stored, Stands, stands, missing, stands-within, stands-records}
 use Rattle.seek.specs.declared.Span as Span
-use Rattle.additions.specs.Add.{Key, whichOf, keyOf, marks, pickStart, pickSpan, childOf, spotIn, keysOf, foundOf, columnWords, column, preparedOf, resultOf, given, named, atomOf, wordOf, put, intoModel}
-use Rattle.additions.specs.Place.{chainKey, Known, Lands, Grown, Moves}
+use Rattle.places.specs.Place.{Known, Lands, column, Grown, Moves}
+use Rattle.places.specs.Pick.{spotIn, foundOf}
+use Rattle.places.specs.declared.Place as Place
+use Rattle.places.specs.declared.Spot as Spot
+use Rattle.places.proofs.Spans.{model-inside, model-span}
+use Rattle.places.proofs.Laws.{at-span}
+use Rattle.additions.specs.Add.{keysOf, columnWords, preparedOf, resultOf, given, named, atomOf, wordOf, put, intoModel}
 use Rattle.additions.specs.declared.NewAtom as Values
 use Rattle.additions.specs.declared.Names as Names
 use Rattle.additions.specs.declared.Word as Word
 use Rattle.additions.specs.declared.Readied as Readied
-use Rattle.additions.specs.declared.Child as Child
-use Rattle.additions.specs.declared.Place as Place
-use Rattle.additions.specs.declared.Spot as Spot
-use Rattle.additions.proofs.Column.{or-none, pick-pass, pick-within, Ins, puts-chains, ins-machine, ins-model}
-use Rattle.additions.proofs.Spans.{Inside, picked-inside, model-inside, model-span}
+use Rattle.additions.proofs.Column.{Ins, puts-chains, ins-machine, ins-model}
 
 -- ---- new records in a store
 
@@ -208,199 +207,6 @@ pub values-good : (v : Values.NewAtom) (a b c d e : Bool)
 unfolding goodValues
 values-good v a b c d e x y z o f = all-good a b c d e (leb (v .element) 118) (leb (v .hetero) 1) ∙ rw (x, y, z, o, f)
 
--- ---- is_marked
-
--- a word of a record
-record-word : (w : List ℕ) (at j : ℕ) → j < 12 → getD (recordAt at w) j 0 ≡ getD w (at * 12 + j) 0
-record-word w at j l = getD-take 12 (drop (at * 12) w) j 0 l ∙ getD-drop (at * 12) w j 0
-
-module _ (w : List ℕ) (at h word flag : ℕ) (text : List ℕ) where
-  pub unmarked-kind : (getD w (at * 12) 0 ≡ h → ⊥) → false ≡ marks h (keyOf false word flag text) (recordAt at w)
-  unmarked-kind n = rw (record-kind w at, ne-eqb (getD w (at * 12) 0) h n)
-
-  pub unmarked-word : getD w (at * 12) 0 ≡ h → (getD w (at * 12 + 1) 0 ≡ word → ⊥) → false ≡ marks h (keyOf false word flag text) (recordAt at w)
-  unmarked-word e n = rw (record-kind w at, record-word w at 1 (omega arith), eq-eqb (getD w (at * 12) 0) h e, ne-eqb (getD w (at * 12 + 1) 0) word n)
-
-  pub marked : (r : Bool) → getD w (at * 12) 0 ≡ h → getD w (at * 12 + 1) 0 ≡ word → r ≡ matchesOptional (record { flag = flag; text = text }) (getD w (at * 12 + 2) 0)
-      → r ≡ marks h (keyOf false word flag text) (recordAt at w)
-  marked r e f q =
-      rw (record-kind w at, record-word w at 1 (omega arith), record-word w at 2 (omega arith), eq-eqb (getD w (at * 12) 0) h e, eq-eqb (getD w (at * 12 + 1) 0) word f) q
-
--- ---- find
-
-abbrev pub optionOf : Child.Child → Option ℕ
-optionOf (Child.the-variants.At n) = some n
-optionOf Child.the-variants.Missing = none
-
-child-option : (c : Child.Child) → childOf (optionOf c) ≡ c
-child-option (Child.the-variants.At n) = refl
-child-option Child.the-variants.Missing = refl
-
--- what is found among the records left, or else the best so far
-pub record Searched (w : List ℕ) (from end h : ℕ) (key : Key) (at : ℕ) (best : Child.Child) : Type 0 where
-  pub low : at ≤ end
-  pub same : pickStart h key from (between from end w) ≡ orElse (pickStart h key at (between at end w)) (optionOf best)
-
-pub search-begin : (w : List ℕ) (from end h : ℕ) (key : Key) → Within from end w → Searched w from end h key from Child.the-variants.Missing
-search-begin w from end h key b = record { low = b .order; same = sym (or-none _) }
-
-start-pass : (h : ℕ) (key : Key) (n : ℕ) (r : Words) (rs : List Words) → marks h key r ≡ false → pickStart h key n (r ∷ rs) ≡ pickStart h key (n + 1) rs
-start-pass h key n r rs e = rw (pick-pass (marks h key) (key .which) r rs e) (go (pick (key .which) (marks h key) rs))
-  where
-    go : (o : Option ℕ) → andThen (Option·map suc o) (λ i. some (n + i)) ≡ andThen o (λ i. some (n + 1 + i))
-    go none = refl
-    go (some i) = ap some (omega arith)
-
-start-first : (h n : ℕ) (key : Key) (r : Words) (rs : List Words) → key .which ≡ first → marks h key r ≡ true → pickStart h key n (r ∷ rs) ≡ some n
-start-first h n key r rs d e = rw (d, e, add-zero)
-
-start-last : (h n : ℕ) (key : Key) (r : Words) (rs : List Words) (o : Option ℕ) → key .which ≡ last → marks h key r ≡ true
-    → orElse (pickStart h key n (r ∷ rs)) o ≡ orElse (pickStart h key (n + 1) rs) (some n)
-start-last h n key r rs o d e = rw (d, e) (go (pick last (marks h key) rs))
-  where
-    go : (p : Option ℕ) → orElse (andThen (orElse (Option·map suc p) (some 0)) (λ i. some (n + i))) o ≡ orElse (andThen p (λ i. some (n + 1 + i))) (some n)
-    go none = ap some (add-zero n)
-    go (some i) = ap some (omega arith)
-
-module _ (w : List ℕ) (from end h word flag : ℕ) (text : List ℕ) (b : Bool) (at : ℕ) (best : Child.Child) (s : Searched w from end h (keyOf b word flag text) at best) (l : at < end) where
-  abbrev key : Key
-  key = keyOf b word flag text
-
-  pub search-pass : (m : Bool) → m ≡ marks h (keyOf false word flag text) (recordAt at w) → m ≡ false → Searched w from end h key (at + 1) best
-  search-pass m d e =
-      record {
-        low = omega arith;
-        same = s .same ∙ rw (between-cons w end at l, start-pass h key at (recordAt at w) (between (at + 1) end w) (sym d ∙ e));
-      }
-
-  pub search-on : (m : Bool) → m ≡ marks h (keyOf false word flag text) (recordAt at w) → m ≡ true → b ≡ true → Searched w from end h key (at + 1) (Child.the-variants.At at)
-  search-on m d e f =
-      record {
-        low = omega arith;
-        same = s .same ∙ rw (between-cons w end at l, start-last h at key (recordAt at w) (between (at + 1) end w) (optionOf best) (ap whichOf f) (sym d ∙ e));
-      }
-
-  pub search-hit : (m : Bool) → m ≡ marks h (keyOf false word flag text) (recordAt at w) → m ≡ true → b ≡ false → Child.the-variants.At at ≡ childOf (pickStart h key from (between from end w))
-  search-hit m d e f =
-      let q : pickStart h key from (between from end w) ≡ some at =
-      s .same ∙ rw (between-cons w end at l, start-first h at key (recordAt at w) (between (at + 1) end w) (ap whichOf f) (sym d ∙ e)) in
-      rw q
-
-pub search-end : (w : List ℕ) (from end h : ℕ) (key : Key) (at : ℕ) (best : Child.Child) → Searched w from end h key at best → end ≤ at → best ≡ childOf (pickStart h key from (between from end w))
-search-end w from end h key at best s l =
-    let q : pickStart h key from (between from end w) ≡ optionOf best = s .same ∙ rw (between-nil w end at l) (go (key .which)) in
-    rw q (sym (child-option best))
-  where
-    go : (v : Which) → orElse (andThen (pick v (marks h key) []) (λ i. some (at + i))) (optionOf best) ≡ optionOf best
-    go first = refl
-    go last = refl
-
--- ---- pick
-
--- the record found, by its offset
-pub record Met (h : ℕ) (key : Key) (from end : ℕ) (w : List ℕ) (at : ℕ) : Type 0 where
-  pub offset : ℕ
-  pub there : pick (key .which) (marks h key) (between from end w) ≡ some offset
-  pub number : from + offset ≡ at
-  pub below : at < end
-
-module _ (w : List ℕ) (h : ℕ) (key : Key) (from end : ℕ) (r : Child.Child) (e : r ≡ childOf (pickStart h key from (between from end w))) where
-  pub pick-missing : r ≡ Child.the-variants.Missing → Span.the-variants.Missing ≡ spanOf (pickSpan h key from (between from end w))
-  pick-missing m = go (pick (key .which) (marks h key) (between from end w)) (sym e ∙ m)
-    where
-      go : (o : Option ℕ) → childOf (andThen o (λ i. some (from + i))) ≡ Child.the-variants.Missing → Span.the-variants.Missing ≡ spanOf (andThen o (λ i. toEnd h (from + i) (drop (suc i) (between from end w))))
-      go none q = refl
-      go (some i) q = let z : _≡_ {A = ℕ} 0 1 = cc in absurd (omega arith)
-
-  module _ (at : ℕ) (b : Within from end w) (m : r ≡ Child.the-variants.At at) where
-    met : Met h key from end w at
-    met = go (pick (key .which) (marks h key) (between from end w)) refl (sym e ∙ m)
-      where
-        go : (o : Option ℕ) → pick (key .which) (marks h key) (between from end w) ≡ o → childOf (andThen o (λ i. some (from + i))) ≡ Child.the-variants.At at → Met h key from end w at
-        go none q p = let z : _≡_ {A = ℕ} 0 1 = cc in absurd (omega arith)
-        go (some i) q p =
-            let n : from + i ≡ at = cc in
-            record {
-              offset = i;
-              there = q;
-              number = n;
-              below = omega (arith, b .order, pick-within (marks h key) (key .which) (between from end w) i q, length-drop from (chunks end w), chunks-length end w);
-            }
-
-    pub pick-after : Within (at + 1) end w
-    pick-after = record { order = omega (arith, met .below); room = b .room }
-
-    pub pick-is : (stop : ℕ) → stop ≡ at + 1 + run h (between (at + 1) end w) → Span.the-variants.At at stop ≡ spanOf (pickSpan h key from (between from end w))
-    pick-is stop f =
-        let q : from + suc (met .offset) ≡ at + 1 = omega (arith, met .number) in
-        let g : stop ≡ suc at + run h (between (at + 1) end w) = f ∙ ap (λ (x : ℕ). x + run h (between (at + 1) end w)) (add-one at) in
-        rw (met .there, drop-drop (suc (met .offset)) from (chunks end w), q, met .number, g)
-
--- ---- spot_of
-
-pub at-span : (o : Option (ℕ × ℕ)) (start stop : ℕ) → spanOf o ≡ Span.the-variants.At start stop → o ≡ some (start, stop)
-at-span none start stop e = let z : _≡_ {A = ℕ} 0 1 = cc in absurd (omega arith)
-at-span (some s) start stop e =
-    let x : s .0 ≡ start = cc in
-    let y : s .1 ≡ stop = cc in
-    λ i. some (x i, y i)
-
-no-span : (o : Option (ℕ × ℕ)) → spanOf o ≡ Span.the-variants.Missing → o ≡ none
-no-span none e = refl
-no-span (some s) e = let z : _≡_ {A = ℕ} 0 1 = cc in absurd (omega arith)
-
-module _ (w : List ℕ) (h : ℕ) (key : Key) (from end : ℕ) (r : Span.Span) (e : r ≡ spanOf (pickSpan h key from (between from end w))) where
-  pub spot-missing : (keys : List Key) → r ≡ Span.the-variants.Missing → spotIn h (key ∷ keys) from end w ≡ (end, 0)
-  unfolding spotIn
-  spot-missing keys m = rw (no-span (pickSpan h key from (between from end w)) (sym e ∙ m))
-
-  module _ (start stop : ℕ) (m : r ≡ Span.the-variants.At start stop) where
-    pub spot-span : pickSpan h key from (between from end w) ≡ some (start, stop)
-    spot-span = at-span (pickSpan h key from (between from end w)) start stop (sym e ∙ m)
-
-    pub spot-inside : Within from end w → Inside from end start stop
-    spot-inside b = picked-inside w from end h b key start stop spot-span
-
-    pub spot-within : Within from end w → Within (start + 1) stop w
-    spot-within b = let i = spot-inside b in record { order = omega (arith, i .order); room = omega (arith, i .high, b .room) }
-
-    pub spot-on : (keys : List Key) (at n : ℕ) → spotIn (suc h) keys (start + 1) stop w ≡ (at, n) → spotIn h (key ∷ keys) from end w ≡ (at, suc n)
-    unfolding spotIn
-    spot-on keys at n f = rw (spot-span, f)
-
-pub spot-none : (h from end : ℕ) (w : List ℕ) → spotIn h [] from end w ≡ (end, 0)
-unfolding spotIn
-spot-none h from end w = refl
-
--- the spot of a chain that is missing, and one below a chain that stands
-module _ (w : List ℕ) (start end id : ℕ) (r : Span.Span) (e : r ≡ spanOf (pickSpan 2 (chainKey id) (start + 1) (between (start + 1) end w))) where
-  pub lands-missing : r ≡ Span.the-variants.Missing → Lands start end id w (record { at = end; depth = 0; chain = end; «chain_end» = end })
-  lands-missing m =
-      record {
-        depth = omega arith;
-        high = omega arith;
-        within = omega arith;
-        missing = λ d. no-span (pickSpan 2 (chainKey id) (start + 1) (between (start + 1) end w)) (sym e ∙ m);
-        last = λ d. refl;
-        chain = λ d. absurd (omega arith);
-        low = λ d. absurd (omega arith);
-        residue = λ d. absurd (omega arith);
-      }
-
-  pub lands-below : (chain stop : ℕ) → r ≡ Span.the-variants.At chain stop → Within (start + 1) end w → (at depth : ℕ) → (1 ≤ depth) × (depth ≤ 3) → chain < at → at ≤ stop → (depth ≡ 1 → at ≡ stop)
-      → Lands start end id w (record { at = at; depth = depth; chain = chain; «chain_end» = stop })
-  lands-below chain stop m b at depth d l u f =
-      record {
-        depth = d .1;
-        high = u;
-        within = spot-inside w 2 (chainKey id) (start + 1) end r e chain stop m b .high;
-        missing = λ z. absurd (omega arith);
-        last = λ z. absurd (omega arith);
-        chain = λ z. spot-span w 2 (chainKey id) (start + 1) end r e chain stop m;
-        low = λ z. l;
-        residue = f;
-      }
-
 -- ---- put_records
 
 pub put-is : (x n : ℕ) (new w s s′ : List ℕ) → s ≡ gapped (12 * x) (length new) (12 * n) w → s′ ≡ over (12 * x) new (set s (length w - 1) (12 * n + length new)) → s′ ≡ put x n new w
@@ -437,12 +243,16 @@ module _ (w : List ℕ) (g : Good w) (serial x count : ℕ) (e : x ≡ capacity 
 
 -- ---- add_atom
 
+-- the new records, all four
+abbrev newColumn : Names.Names → ℕ → Values.NewAtom → List Words
+newColumn n residue v = column (preparedOf n) residue (atomOf v (n .name))
+
 -- the words of the column's records from one on
 column-part : (n : Names.Names) (residue : ℕ) (v : Values.NewAtom) (x : ℕ) → x ≤ 4
-    → take (48 - 12 * x) (drop (12 * x) (columnWords n residue v)) ≡ concat (drop x (column n residue v))
+    → take (48 - 12 * x) (drop (12 * x) (columnWords n residue v)) ≡ concat (drop x (newColumn n residue v))
 unfolding words
 column-part n residue v x l =
-    let col = column n residue v in
+    let col = newColumn n residue v in
     let t : Twelve col = (refl, (refl, (refl, (refl, tt)))) in
     let d : drop (12 * x) (concat col) ≡ concat (drop x col) = sym (ap (drop (12 * x)) (append-nil (concat col))) ∙ drop-records col [] t x l ∙ append-nil (concat (drop x col)) in
     let c : length (concat (drop x col)) ≡ 48 - 12 * x = omega (arith, concat-length (drop x col) (twelve-drop x col t), length-drop x col) in
@@ -489,26 +299,26 @@ module _ (w : List ℕ) (g : Good w) (i start stop : ℕ) (e : span (i ∷ []) (
     after = replaceAt 0 4 (i ∷ []) ((there .0, intoChains atom (preparedOf n) (there .1)) ∷ []) (held w)
 
     abbrev place : ℕ × ℕ
-    place = spotIn 2 (keysOf n residue code location) (start + 1) stop w
+    place = spotIn 2 (keysOf (preparedOf n) residue code location) (start + 1) stop w
 
-    put-atom : Ins 4 (held w) after 0 (place .0) (drop (place .1) (column n residue v))
+    put-atom : Ins 4 (held w) after 0 (place .0) (drop (place .1) (newColumn n residue v))
     put-atom =
         let x = stood .first in
-        ins-machine i (held w) there _ (start + 1) _ _ (stood .spot) (omega arith) (puts-chains atom n v refl .among w (start + 1) stop (there .1) long chains)
+        ins-machine i (held w) there _ (start + 1) _ _ (stood .spot) (omega arith) (puts-chains atom (preparedOf n) .among w (start + 1) stop (there .1) long chains)
 
     module _ (s : Spot.Spot) (h : foundOf s ≡ place) (lands : Lands start stop (n .chain) w s) (count : ℕ) (c : count ≡ length (records (held w))) where
       atom-fits : intoModel (length w) i atom (preparedOf n) (held w) ≡ fits (length w) after
       unfolding intoModel
       atom-fits = rw (stood .there)
 
-      ins : Ins 4 (held w) after 0 (s .at) (drop (s .depth) (column n residue v))
-      ins = subst (λ (p : ℕ × ℕ). Ins 4 (held w) after 0 (p .0) (drop (p .1) (column n residue v))) (sym h) put-atom
+      ins : Ins 4 (held w) after 0 (s .at) (drop (s .depth) (newColumn n residue v))
+      ins = subst (λ (p : ℕ × ℕ). Ins 4 (held w) after 0 (p .0) (drop (p .1) (newColumn n residue v))) (sym h) put-atom
 
       pub atom-at : s .at ≤ count
       atom-at = omega (arith, put-low w g after _ _ ins)
 
-      new-length : count + 4 - s .depth ≡ length (records (held w)) + length (drop (s .depth) (column n residue v))
-      new-length = omega (arith, lands .depth, length-drop (s .depth) (column n residue v))
+      new-length : count + 4 - s .depth ≡ length (records (held w)) + length (drop (s .depth) (newColumn n residue v))
+      new-length = omega (arith, lands .depth, length-drop (s .depth) (newColumn n residue v))
 
       pub atom-full : (x : ℕ) → x ≡ capacity (length w) → x < count + 4 - s .depth → (editedNumbers (Edited.the-variants.Refused NoCapacity), w) ≡ outcome
       atom-full x d l = rw atom-fits (put-full w g after _ _ ins x (count + 4 - s .depth) d new-length l)
@@ -518,7 +328,7 @@ module _ (w : List ℕ) (g : Good w) (i start stop : ℕ) (e : span (i ∷ []) (
         atom-room col = omega (arith, lands .depth, length-take (48 - 12 * s .depth) (drop (12 * s .depth) col), good-length w g)
 
         module _ (col s′ : List ℕ) (k : col ≡ columnWords n residue v) (y : s′ ≡ put (s .at) count (take (48 - 12 * s .depth) (drop (12 * s .depth) col)) w) where
-          new-words : s′ ≡ put (s .at) (length (records (held w))) (concat (drop (s .depth) (column n residue v))) w
+          new-words : s′ ≡ put (s .at) (length (records (held w))) (concat (drop (s .depth) (newColumn n residue v))) w
           new-words = let part = column-part n residue v (s .depth) (omega (arith, lands .depth)) in y ∙ rw (k, part, c)
 
           pub atom-done : (editedNumbers (Edited.the-variants.Done 1 0), s′) ≡ outcome
@@ -526,7 +336,7 @@ module _ (w : List ℕ) (g : Good w) (i start stop : ℕ) (e : span (i ∷ []) (
 
           pub atom-moved : (p q : Place.Place) → Known p w → Moves p i start stop (n .chain) residue s q → Known q s′
           atom-moved p q known moves =
-              moves w s′ n v refl g known (model-span w g i ∙ e) lands (put-grown w g after _ _ ins x (count + 4 - s .depth) s′ d new-length l new-words)
+              moves w s′ (preparedOf n) (atomOf v (n .name)) refl g known (model-span w g i ∙ e) lands (put-grown w g after _ _ ins x (count + 4 - s .depth) s′ d new-length l new-words)
 
 -- in the model at an index
 module _ (w : List ℕ) (g : Good w) (i : ℕ) (chain : List ℕ) (residue : ℕ) (code : Optional) (conformer : List ℕ) (location : Optional) (name : List ℕ) (v : Values.NewAtom)

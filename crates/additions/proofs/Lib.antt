@@ -1,4 +1,2 @@
 pub mod Column
-pub mod Spans
-pub mod Kept
 pub mod Laws

@@ -1,4 +1,1 @@
-pub mod Texts
-pub mod Calls
-pub mod Parted
 pub mod Lists

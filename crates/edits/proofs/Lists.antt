@@ -28,9 +28,10 @@ use Rattle.calls.specs.Counted.{isSome, countedOf}
 use Rattle.calls.specs.declared.Counted as Counted
 use Rattle.calls.specs.Format.{readCall, readCalls}
 use Rattle.calls.specs.Laws.{calls-none, calls-step}
-use Rattle.edits.specs.Apply.{appliedNumbers, stepOf, Run, ran, answered, applied, runCalls, applyRun, callsOf}
+use Rattle.dispatch.specs.Step.{stepOf}
+use Rattle.dispatch.proofs.Texts.{some-of}
+use Rattle.edits.specs.Apply.{appliedNumbers, Run, ran, answered, applied, runCalls, applyRun, callsOf}
 use Rattle.edits.specs.declared.Applied as Applied
-use Rattle.edits.proofs.Texts.{some-of}
 
 -- ---- the answers
 

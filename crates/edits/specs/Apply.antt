@@ -1,16 +1,14 @@
 -- A list of edits applied to a store as one call. Assumes nothing.
-use Prim.Native.Nat.{ℕ, _+_, _*_, _%_, _≤_}
-use mathlib.Core.Path.{_≡_}
+use Prim.Native.Nat.{ℕ, _*_}
 use mathlib.Core.Bool.{cond}
-use mathlib.Core.List.{List, [], _∷_, _++_, map}
+use mathlib.Core.List.{List, [], _∷_, _++_}
 use mathlib.Core.Option.{Option, none, some}
-use lib.ListN.{length, getD, take, drop}
+use lib.ListN.{length, drop}
 use lib.Dec.{leb}
 use Rattle.machine.specs.Lists.{bind}
 use Rattle.machine.specs.Answer.{Result, ok, refused, refusalNumber}
 use Rattle.machine.specs.Store.{Machine, readStore}
-use Rattle.machine.specs.Edit.{Call, storeStep, storeAfter, storeAnswers}
-use Rattle.additions.specs.declared.NewAtom as Values
+use Rattle.machine.specs.Edit.{Call, storeAfter, storeAnswers}
 use Rattle.calls.specs.Format.{readCalls}
 use Rattle.edits.specs.declared.Applied.{Applied}
 use Rattle.edits.specs.declared.Applied.the-variants.{Done, Refused, BadList, ShortAnswers}
@@ -21,11 +19,6 @@ appliedNumbers (Done calls) = 0 ∷ calls ∷ []
 appliedNumbers (Refused r) = refusalNumber r ∷ 0 ∷ []
 appliedNumbers BadList = 22 ∷ 0 ∷ []
 appliedNumbers ShortAnswers = 23 ∷ 0 ∷ []
-
--- one call of the list, if it is one
-abbrev pub stepOf : List ℕ → Option Call → List ℕ × List ℕ
-stepOf w none = ([], w)
-stepOf w (some c) = storeStep w c
 
 -- the answer's numbers, the store's words and the output's words afterwards
 pub record Run : Type 0 where
@@ -65,30 +58,3 @@ applyRun w list out = runRead w list out (readStore w)
 abbrev pub callsOf : Option (List Call) → List Call
 callsOf none = []
 callsOf (some cs) = cs
-
-abbrev pub lowByte : ℕ → ℕ
-lowByte n = n % 256
-
--- the bytes begin with the words: a text's words are bytes
-pub record Narrowed (ws bytes : List ℕ) : Type 0 where
-  pub room : length ws ≤ length bytes
-  pub same : take (length ws) bytes ≡ map lowByte ws
-
--- where the part that starts at a word ends: after its length, and as many words
-abbrev pub partEnd : List ℕ → ℕ → ℕ
-partEnd ws at = at + 1 + getD ws at 0
-
--- the values of a new atom among the numbers of its call
-abbrev pub valuesIn : List ℕ → Values.NewAtom
-valuesIn ws =
-    record {
-      serial = getD ws 4 0;
-      x = getD ws 5 0;
-      y = getD ws 6 0;
-      z = getD ws 7 0;
-      occupancy = getD ws 8 0;
-      «b_factor» = getD ws 9 0;
-      element = getD ws 10 0;
-      charge = getD ws 11 0;
-      hetero = getD ws 12 0;
-    }

@@ -22,7 +22,7 @@ use Rattle.machine.specs.declared.Refusal.the-variants.{TreeShape, TreeNode}
 use Rattle.search.specs.Nodes.{nodeFor, goodNode, deeper, leftBy, deeperBy, depthOf, maybeDepth, checked}
 use Rattle.search.specs.declared.MaybeDepth as MaybeDepth
 use Rattle.search.specs.declared.CheckedTree.the-variants as CheckedTree
-use Rattle.search.proofs.Terms.{cases}
+use Rattle.terms.proofs.Terms.{cases}
 use Rattle.search.proofs.Nodes.{each-in, bad-low, bad-high, node-good, node-bad, node-refused}
 
 -- ---- one node

@@ -1,5 +1,3 @@
-pub mod Terms
-pub mod Records
 pub mod Nodes
 pub mod Depth
 pub mod Postfix

@@ -22,10 +22,10 @@ use Rattle.machine.specs.declared.Node.{Node}
 use Rattle.machine.specs.declared.Node.the-variants.{Single, Binary, Not, Known}
 use Rattle.machine.specs.declared.RecordNumbers.{RecordNumbers}
 use Rattle.laws.specs.Lists.{All}
-use Rattle.search.specs.Levels.{valueAt}
+use Rattle.terms.specs.Levels.{valueAt}
 use Rattle.search.specs.Nodes.{nodeFor, nodesIn, checked, kinds, kindFor, lesser, lowestFrom}
 use Rattle.search.specs.declared.CheckedTree.the-variants.{Good}
-use Rattle.search.proofs.Terms.{caseOf}
+use Rattle.terms.proofs.Terms.{caseOf}
 use Rattle.search.proofs.Nodes.{each-in}
 use Rattle.search.proofs.Postfix.{tree-read}
 

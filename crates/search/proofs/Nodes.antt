@@ -20,7 +20,7 @@ use Rattle.machine.specs.declared.Refusal.{Refusal}
 use Rattle.machine.specs.declared.Refusal.the-variants.{TreeNode}
 use Rattle.laws.specs.Lists.{and-both}
 use Rattle.search.specs.Nodes.{made, nodeFor, fits, goodNode}
-use Rattle.search.proofs.Terms.{cases, each-key}
+use Rattle.terms.proofs.Terms.{cases, each-key}
 
 -- ---- codes in a range, and codes that are none of the keys passed
 

@@ -1,4 +1,3 @@
-pub mod Levels
 pub mod Nodes
 pub mod Value
 pub mod Laws

@@ -27,7 +27,7 @@ use Rattle.seek.specs.Seek.{held, Good, Within, recordAt, span, spanOf}
 use Rattle.seek.specs.Below.{record-kind}
 use Rattle.seek.specs.Laws.{Stands, found, missing}
 use Rattle.seek.specs.declared.Span as Span
-use Rattle.search.specs.Levels as Levels
+use Rattle.terms.specs.Levels as Levels
 use Rattle.search.specs.Nodes.{checked}
 use Rattle.search.specs.Laws.{tree-then, tree-refused}
 use Rattle.search.specs.declared.CheckedTree as CheckedTree

@@ -32,7 +32,7 @@ use Rattle.store.specs.declared.Checked as Checked
 use Rattle.search.specs.Nodes.{checked}
 use Rattle.search.specs.Laws.{tree-then, tree-refused}
 use Rattle.search.specs.declared.CheckedTree as CheckedTree
-use Rattle.search.specs.Levels.{numbersIn, Inside}
+use Rattle.terms.specs.Levels.{numbersIn, Inside}
 use Rattle.walk.specs.Walk.{five, pick, enteredAt, valueBy, Sure, Turned, foundIn, wrote, Levelled, UpTo, Ready, Asked, start}
 use Rattle.walk.specs.declared.State.{State}
 use Rattle.walk.specs.Laws.{whole-levels, found-whole}

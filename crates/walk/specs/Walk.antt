@@ -16,7 +16,7 @@ use Rattle.machine.specs.declared.Tri.the-variants.{True}
 use Rattle.laws.specs.Lists.{All}
 use Rattle.moves.specs.Over.{over}
 use Rattle.seek.specs.Seek.{Good, Within, between, held}
-use Rattle.search.specs.Levels.{placeAt, valueAt}
+use Rattle.terms.specs.Levels.{placeAt, valueAt}
 use Rattle.search.specs.Nodes.{checked}
 use Rattle.search.specs.declared.CheckedTree as CheckedTree
 use Rattle.walk.specs.Sieve.{sieve}

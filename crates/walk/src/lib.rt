@@ -15,7 +15,7 @@ ghost use Rattle.machine.specs.Query.{readTree};
 ghost use Rattle.machine.specs.Find.{hitsIn, findRun};
 ghost use Rattle.moves.specs.Over.{over};
 ghost use Rattle.seek.specs.Seek.{held};
-ghost use Rattle.search.specs.Levels.{numbersIn, Inside};
+ghost use Rattle.terms.specs.Levels.{numbersIn, Inside};
 ghost use Rattle.search.specs.Nodes.{checked, lowestFrom};
 ghost use Rattle.search.specs.declared.CheckedTree.the-variants.{Good};
 ghost use Rattle.walk.specs.Walk.{five, start as startAt, valueBy, Sure, Turned, foundIn, wrote, Ready, Asked};

@@ -1,5 +1,5 @@
 -- `additions::add_atom` meets its contract, by that of `add_atom_at`. Assumes nothing.
-use Rattle.additions.proofs.Kept.{nowhere-known}
+use Rattle.places.proofs.Kept.{nowhere-known}
 use borrow.Author.Needs.{needs}
 use Rattle.additions.proofs.add_atom.Statement.{statement}
 use Rattle.additions.proofs.add_atom.Tie as tie

@@ -4,8 +4,8 @@ use Prim.Native.Nat.{_-_}
 use mathlib.Core.Path.{_≡_}
 use native.Mathlib.Omega.{arith}
 use lib.ListN.{length}
-use Rattle.additions.specs.Place.{Known}
-use Rattle.additions.proofs.Kept.{nowhere-known}
+use Rattle.places.specs.Place.{Known}
+use Rattle.places.proofs.Kept.{nowhere-known}
 use borrow.Author.Needs.{needs}
 use Rattle.edits.proofs.Lists.{Going, going-start, next-of, next-reads, next-short, answer-room, going-turn, going-end}
 use Rattle.edits.proofs.apply_all.Statement.{statement}

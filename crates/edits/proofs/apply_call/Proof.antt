@@ -1,6 +1,6 @@
 -- `edits::apply_call` meets its contract: an addition keeps a place, and nothing is known after another call. Assumes nothing.
-use Rattle.additions.proofs.Kept.{nowhere-known}
-use Rattle.edits.proofs.Calls.{at-code, of-code}
+use Rattle.places.proofs.Kept.{nowhere-known}
+use Rattle.dispatch.proofs.Calls.{at-code, of-code}
 use borrow.Author.Needs.{needs}
 use Rattle.edits.proofs.apply_call.Statement.{statement}
 use Rattle.edits.proofs.apply_call.Tie as tie

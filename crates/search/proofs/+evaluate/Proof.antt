@@ -7,7 +7,7 @@ use denote.Ref.{now}
 use lib.ListN.{length}
 use Rattle.machine.specs.declared.Tri.{Tri}
 use Rattle.machine.specs.declared.Term.{Term}
-use Rattle.search.specs.Levels.{valueAt, numbersIn}
+use Rattle.terms.specs.Levels.{valueAt, numbersIn}
 use Rattle.search.proofs.Postfix.{taken, shorter, three, single, constant, under-not, negated, under-right, right-start, under-left, joined}
 use Prim.Native.Nat.{ℕ, _-_, _<_}
 use borrow.Fn.Kinds.{In}
@@ -17,11 +17,11 @@ use Rattle.search.proofs.evaluate.Kinds as evaluate-kinds
 use Rattle.search.proofs.+evaluate.Lts-evaluate as evaluate-lts
 use Rattle.search.proofs.anew.Reads as anew-reads
 use Rattle.search.proofs.connection.Reads as connection-reads
-use Rattle.search.proofs.decided.Reads as decided-reads
+use Rattle.terms.proofs.decided.Reads as decided-reads
 use Rattle.search.proofs.negation.Reads as negation-reads
 use Rattle.search.proofs.node_of.Reads as node-of-reads
 use Rattle.search.proofs.numbers.Reads as numbers-reads
-use Rattle.search.proofs.term_value.Reads as term-value-reads
+use Rattle.terms.proofs.term_value.Reads as term-value-reads
 use Rattle.search.proofs.+evaluate.{statement}
 use Rattle.search.proofs.+evaluate.Tie.{close}
 

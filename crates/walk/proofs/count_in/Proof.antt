@@ -4,7 +4,7 @@ use Prim.Native.Nat.{_-_}
 use native.Mathlib.Omega.{arith}
 use mathlib.Core.Path.{_≡_, refl}
 use lib.ListN.{length}
-use Rattle.search.specs.Levels.{numbersIn}
+use Rattle.terms.specs.Levels.{numbersIn}
 use Rattle.walk.specs.Walk.{foundIn}
 use Rattle.walk.proofs.Laws.{Walking, walk-start, walk-end, least, most, walk-entered, walk-five, walk-deep, walk-inside, walk-sure, walk-hit, walk-miss}
 use Rattle.walk.proofs.count_in.Statement.{statement}

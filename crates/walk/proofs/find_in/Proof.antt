@@ -4,7 +4,7 @@ use Prim.Native.Nat.{_-_}
 use native.Mathlib.Omega.{arith}
 use mathlib.Core.Path.{_≡_, refl}
 use lib.ListN.{length}
-use Rattle.search.specs.Levels.{numbersIn}
+use Rattle.terms.specs.Levels.{numbersIn}
 use Rattle.walk.specs.Walk.{foundIn}
 use Rattle.walk.proofs.Laws.{least, most, walk-entered, walk-five, walk-inside, walk-sure, Writing, write-start, write-end, write-deep, write-miss, write-room, write-hit}
 use Rattle.walk.proofs.find_in.Statement.{statement}

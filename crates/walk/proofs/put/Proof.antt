@@ -3,7 +3,7 @@ use borrow.Author.Needs.{needs}
 use Prim.Native.Nat.{_*_}
 use native.Mathlib.Omega.{arith}
 use lib.ListN.{length-set}
-use Rattle.search.specs.Levels.{numbersIn}
+use Rattle.terms.specs.Levels.{numbersIn}
 use Rattle.walk.proofs.Laws.{put-law}
 use Rattle.walk.proofs.put.Statement.{statement}
 use Rattle.walk.proofs.put.Tie as tie
