@@ -1,20 +1,20 @@
 -- Laws of stored words: what the test by numbers says of a word's text, and what each rule stores again. Assumes nothing.
 use Prim.Native.Nat.{ℕ, zero, suc, _+_, _-_, _*_, _/_, _%_, _^_, _≤_, _<_}
 use mathlib.Core.Path.{_≡_, refl, sym, ap, _∙_}
-use mathlib.Core.Bool.{Bool, true, false, cond, not, _&&_, _||_, false≢true, and-false, and-true, and-assoc}
+use mathlib.Core.Bool.{Bool, true, false, cond, not, _&&_, _||_, false≢true, and-false, and-true}
 use mathlib.Core.List.{List, [], _∷_, _++_, map, reverse, reverse-cons, reverse-reverse}
 use native.Mathlib.Nat.{add-zero, zero-add, zero-mul, one-le-pow, pow-suc, suc-mul, mul-div-cancel, mul-le-mul-right, div-add-mod', mod-lt, mod-one, zero-mod}
 use native.Mathlib.Omega.{arith}
 use lib.ListN.{length, length-append}
 use lib.Dec.{leb, ltb, eqb}
-use borrow.Author.Tests.{eq-eqb, ne-eqb, eqb-true, eqb-false, le-leb, lt-leb, lt-ltb, le-ltb, leb-true, leb-false, ltb-true, ltb-false}
+use borrow.Author.Tests.{eq-eqb, ne-eqb, eqb-true, eqb-false, le-leb, lt-leb, lt-ltb, le-ltb, leb-true, leb-false}
 use Rattle.machine.specs.Lists.{all, isEmpty}
 use Rattle.machine.specs.Text.{packed, pack, unpacked, beforeZeros, withoutZeros, textOf, plain, blank, raise, trimStart, trim, fit, chainId, raised, insertionCode, conformerName, alternativeLocation, atomName, stores, storedBy, absentOr, packedText}
 use Rattle.machine.specs.declared.Prepared.{Prepared}
 use Rattle.machine.specs.declared.Prepared.the-variants.{Stored, Absent, Bad}
 use Rattle.laws.specs.Lists.{and-both}
 use Rattle.laws.specs.Packing.{pack-textOf, textOf-pack, length-textOf, both-ways}
-use Rattle.helper.specs.Tidy.{inCase, tidyByte, tidy, raisedPair}
+use Rattle.helper.specs.Tidy.{inCase, tidyByte, tidy}
 use Rattle.helper.proofs.Laws.{length-case}
 
 -- ---- the code's tests, unfolded
@@ -26,109 +26,62 @@ module _ (low : ℕ) (up : Bool) where
   tidy-zero (suc n) = rw (zero-mod (256 ^ n)) (tidy-zero n)
 
 -- `tidy_text`: what is left of w is the number rest, of which unless it is 0 the first byte is worth unit
-pub record TextLeft (low w rest unit : ℕ) : Type 0 where
+pub record TextLeft (low : ℕ) (up : Bool) (w rest unit : ℕ) : Type 0 where
   n : ℕ
   worth : 0 < rest → unit ≡ 256 ^ n
   pub fits : unit ≤ 2 ^ 56
-  same : tidy low false 8 w ≡ tidy low false (suc n) rest
+  same : tidy low up 8 w ≡ tidy low up (suc n) rest
 
-module _ (low w : ℕ) where
-  pub text-begin : TextLeft low w w 0x100_0000_0000_0000
+module _ (low : ℕ) (up : Bool) (w : ℕ) where
+  pub text-begin : TextLeft low up w w 0x100_0000_0000_0000
   text-begin = record { n = 7; worth = λ h. refl; fits = omega arith; same = refl }
 
-  module _ {rest unit : ℕ} (t : TextLeft low w rest unit) where
-    pub text-done : rest ≤ 0 → true ≡ tidy low false 8 w
-    text-done h = let z : rest ≡ 0 = omega arith in sym (t .same ∙ rw z (tidy-zero low false (suc (t .n))))
+  module _ {rest unit : ℕ} (t : TextLeft low up w rest unit) where
+    pub text-done : rest ≡ 0 → true ≡ tidy low up 8 w
+    text-done z = sym (t .same ∙ rw z (tidy-zero low up (suc (t .n))))
 
-    module _ (more : 0 < rest) where
-      pub text-unit : 1 ≤ unit
-      text-unit = rw (t .worth more) (one-le-pow (t .n) 256 (omega arith))
+    pub text-all : unit ≤ 0 → true ≡ tidy low up 8 w
+    text-all h = go (leb rest 0) refl
+      where
+        go : (b : Bool) → leb rest 0 ≡ b → true ≡ tidy low up 8 w
+        go true e = let l = leb-true rest 0 e in text-done (omega arith)
+        go false e = let m = leb-false rest 0 e in absurd (omega (arith, t .worth m, one-le-pow (t .n) 256 (omega arith)))
 
-      pub text-less : unit / 256 < unit
-      text-less = let l = text-unit in omega arith
+    module _ (some : rest ≡ 0 → ⊥) {b : Bool} (e : b ≡ tidyByte low up rest unit) where
+      worth : unit ≡ 256 ^ (t .n)
+      worth = t .worth (omega arith)
 
-      module _ {b : Bool} (e : b ≡ tidyByte low false rest unit) where
-        byte : tidyByte low false rest (256 ^ (t .n)) ≡ b
-        byte = rw (← t .worth more) (sym e)
+      byte : tidyByte low up rest (256 ^ (t .n)) ≡ b
+      byte = rw (← worth) (sym e)
 
-        pub text-not : b ≡ false → false ≡ tidy low false 8 w
-        unfolding tidy
-        text-not f = sym (t .same ∙ rw (byte, f))
+      pub text-not : b ≡ false → false ≡ tidy low up 8 w
+      unfolding tidy
+      text-not f = sym (t .same ∙ rw (byte, f))
 
-        pub text-again : b ≡ true → TextLeft low w (rest % unit) (unit / 256)
-        unfolding tidy
-        text-again f = rw (t .worth more) (go (t .n) (t .same ∙ rw (byte, f)) (rw (← t .worth more) (t .fits)))
-          where
-            go : (n : ℕ) → tidy low false 8 w ≡ tidy low false n (rest % 256 ^ n) → 256 ^ n ≤ 2 ^ 56 → TextLeft low w (rest % 256 ^ n) (256 ^ n / 256)
-            go zero s l = record { n = zero; worth = λ h. absurd (omega (arith, mod-one rest)); fits = omega arith; same = s ∙ sym (ap (tidy low false 1) (mod-one rest) ∙ tidy-zero low false 1) }
-            go (suc n) s l = record { n = n; worth = λ h. rw (pow-suc 256 n) (mul-div-cancel (256 ^ n) (omega arith)); fits = omega arith; same = s }
+      pub text-again : b ≡ true → TextLeft low up w (rest % unit) (unit / 256)
+      unfolding tidy
+      text-again f = rw worth (go (t .n) (t .same ∙ rw (byte, f)) (rw (← worth) (t .fits)))
+        where
+          go : (n : ℕ) → tidy low up 8 w ≡ tidy low up n (rest % 256 ^ n) → 256 ^ n ≤ 2 ^ 56 → TextLeft low up w (rest % 256 ^ n) (256 ^ n / 256)
+          go zero s l = record { n = zero; worth = λ h. absurd (omega (arith, mod-one rest)); fits = omega arith; same = s ∙ sym (ap (tidy low up 1) (mod-one rest) ∙ tidy-zero low up 1) }
+          go (suc n) s l = record { n = n; worth = λ h. rw (pow-suc 256 n) (mul-div-cancel (256 ^ n) (omega arith)); fits = omega arith; same = s }
 
--- `tidy_byte`
-pub any-byte : (low rest unit : ℕ) (r x : Bool) → x ≡ (leb (32 * unit + low) rest && ltb rest (127 * unit)) → r ≡ (eqb rest 0 || x) → r ≡ tidyByte low false rest unit
-unfolding tidyByte
-any-byte low rest unit r x e f = rw (f, e, and-true)
-
--- `raised_byte`
-module _ (rest unit : ℕ) (r : Bool) where
-  pub raised-low : rest < 97 * unit → (r ≡ (eqb rest 0 || ltb (32 * unit) rest)) → r ≡ tidyByte 1 true rest unit
+-- `tidy_byte`: below a, a to z, and above
+module _ (low : ℕ) (up : Bool) (rest unit : ℕ) where
+  pub byte-low : rest < 97 * unit → {r : Bool} → r ≡ (eqb rest 0 || leb (32 * unit + low) rest) → r ≡ tidyByte low up rest unit
   unfolding tidyByte
-  raised-low h e = rw (e, lt-leb (97 * unit) rest h, lt-ltb rest (127 * unit) (omega arith)) (go (ltb (32 * unit) rest) refl)
-    where
-      go : (b : Bool) → ltb (32 * unit) rest ≡ b → (eqb rest 0 || b) ≡ (eqb rest 0 || ((leb (32 * unit + 1) rest && true) && true))
-      go true f = rw (le-leb (32 * unit + 1) rest (omega (arith, ltb-true (32 * unit) rest f)))
-      go false f = rw (lt-leb (32 * unit + 1) rest (omega (arith, ltb-false (32 * unit) rest f)))
+  byte-low h e = rw (e, lt-leb (97 * unit) rest h, lt-ltb rest (127 * unit) (omega arith), and-false) (simp and-true)
 
-  pub raised-high : 97 * unit ≤ rest → 1 ≤ unit → (r ≡ (leb (123 * unit) rest && ltb rest (127 * unit))) → r ≡ tidyByte 1 true rest unit
-  unfolding tidyByte
-  raised-high h l e =
-      rw (e, ne-eqb rest 0 (λ z. omega arith), le-leb (32 * unit + 1) rest (omega arith), le-leb (97 * unit) rest h) (go (leb (123 * unit) rest) refl)
-    where
-      go : (b : Bool) → leb (123 * unit) rest ≡ b → (b && ltb rest (127 * unit)) ≡ (ltb rest (127 * unit) && not (ltb rest (123 * unit)))
-      go true f = rw (le-ltb rest (123 * unit) (leb-true (123 * unit) rest f)) (sym (and-true (ltb rest (127 * unit))))
-      go false f = rw (lt-ltb rest (123 * unit) (leb-false (123 * unit) rest f)) (sym (and-false (ltb rest (127 * unit))))
+  module _ (l : low ≤ 1) (u : 1 ≤ unit) (h : 97 * unit ≤ rest) where
+    pub byte-letter : rest < 123 * unit → not up ≡ tidyByte low up rest unit
+    unfolding tidyByte
+    byte-letter k =
+        rw (ne-eqb rest 0 (λ z. omega arith), le-leb (32 * unit + low) rest (omega arith), le-leb (97 * unit) rest h, lt-ltb rest (127 * unit) (omega arith), lt-ltb rest (123 * unit) k, and-true)
 
--- `raised_pair`, of which the first byte is tested before the last
-module _ (rest unit : ℕ) {a : Bool} (e : a ≡ tidyByte 1 true rest (256 * unit)) where
-  pub pair-not : a ≡ false → false ≡ raisedPair rest unit
-  unfolding raisedPair
-  pair-not f = rw (← e, f)
-
-  pub pair-last : a ≡ true → (b : Bool) → b ≡ tidyByte 1 true (rest % (256 * unit)) unit → b ≡ raisedPair rest unit
-  unfolding raisedPair
-  pair-last f b g = rw (← e, f) g
-
-  pub pair-end : a ≡ true → rest % (256 * unit) ≡ 0 → true ≡ raisedPair rest unit
-  unfolding tidyByte
-  pair-end f z = pair-last f true (rw z)
-
--- `raised_rest`
-pub raised-six : (w : ℕ) (a b c x y : Bool) → a ≡ raisedPair w 0x1_0000_0000 → b ≡ raisedPair (w % 0x1_0000_0000) 0x1_0000 → c ≡ raisedPair (w % 0x1_0000_0000 % 0x1_0000) 1
-    → x ≡ (b && c) → y ≡ (a && x) → y ≡ tidy 1 true 6 w
-unfolding tidy raisedPair
-raised-six w a b c x y p q r f g = rw (g, f, r, q, p, five w, three (w % 0x1_0000_0000)) (simp (and-assoc, and-true))
-  where
-    five : (z : ℕ) → z % 0x100_0000_0000 % 0x1_0000_0000 ≡ z % 0x1_0000_0000
-    five z = omega arith
-
-    three : (z : ℕ) → z % 0x100_0000 % 0x1_0000 ≡ z % 0x1_0000
-    three z = omega arith
-
--- `raised_word`
-module _ (w : ℕ) {a : Bool} (e : a ≡ raisedPair w 0x1_0000_0000_0000) where
-  both-first : tidy 1 true 8 w ≡ (a && tidy 1 true 6 (w % 0x1_0000_0000_0000))
-  unfolding tidy raisedPair
-  both-first =
-      let d : w % 0x100_0000_0000_0000 % 0x1_0000_0000_0000 ≡ w % 0x1_0000_0000_0000 = omega arith in
-      rw (d, e) (sym (and-assoc (tidyByte 1 true w 0x100_0000_0000_0000) (tidyByte 1 true (w % 0x100_0000_0000_0000) 0x1_0000_0000_0000) (tidy 1 true 6 (w % 0x1_0000_0000_0000))))
-
-  pub word-not : a ≡ false → false ≡ tidy 1 true 8 w
-  word-not f = sym (both-first ∙ rw f)
-
-  pub word-rest : a ≡ true → (b : Bool) → b ≡ tidy 1 true 6 (w % 0x1_0000_0000_0000) → b ≡ tidy 1 true 8 w
-  word-rest f b g = g ∙ sym (both-first ∙ rw f)
-
-  pub word-end : a ≡ true → w % 0x1_0000_0000_0000 ≡ 0 → true ≡ tidy 1 true 8 w
-  word-end f z = word-rest f true (sym (rw z (tidy-zero 1 true 6)))
+    pub byte-high : 123 * unit ≤ rest → ltb rest (127 * unit) ≡ tidyByte low up rest unit
+    unfolding tidyByte
+    byte-high k =
+        rw (ne-eqb rest 0 (λ z. omega arith), le-leb (32 * unit + low) rest (omega arith), le-leb (97 * unit) rest h, le-ltb rest (123 * unit) k, and-false, and-true)
 
 -- ---- numbers by their first digit
 

@@ -20,7 +20,3 @@ tidyByte low up r unit = eqb r 0 || ((leb (32 * unit + low) r && ltb r (127 * un
 unfoldable pub tidy : ℕ → Bool → ℕ → ℕ → Bool
 tidy low up zero r = true
 tidy low up (suc n) r = tidyByte low up r (256 ^ n) && tidy low up n (r % 256 ^ n)
-
--- two bytes of r in a word that is raised, the last being worth unit
-unfoldable pub raisedPair : ℕ → ℕ → Bool
-raisedPair r unit = tidyByte 1 true r (256 * unit) && tidyByte 1 true (r % (256 * unit)) unit

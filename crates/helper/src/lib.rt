@@ -6,7 +6,7 @@ ghost use Prim.Native.Nat.{_≤_, _<_, _^_};
 ghost use lib.ListN.{length, take, drop, getD};
 ghost use Rattle.machine.specs.Lists.{all};
 ghost use Rattle.machine.specs.Text.{plain, blank, raise, trimStart, trim, pack, fit, chainId, raised, insertionCode, conformerName, alternativeLocation, atomName, byFlag, matches, matchesOptional, storedBy, absentOr, packedText};
-ghost use Rattle.helper.specs.Tidy.{trimEnd, inCase, tidyByte, tidy, raisedPair};
+ghost use Rattle.helper.specs.Tidy.{trimEnd, inCase, tidyByte, tidy};
 ghost use Rattle.machine.specs.declared.Prepared.the-variants.{Bad};
 use machine::Prepared;
 
@@ -255,23 +255,33 @@ pub fn same_optional(flag: u64, text: &[u8], stored: u64) -> bool
 
 // ---- stored words
 
-// One byte, by the number that is left from it on: no byte is taken out of the word. low is 1 where the last byte may be no blank.
-fn tidy_byte(low: u64, rest: u64, unit: u64) -> bool
-    requires { ⌜ (low ≤ 1) × (unit ≤ 2 ^ 56) ⌝ }
-    ensures { λ r. ⌜ r ≡ tidyByte low false rest unit ⌝ }
+// One byte, by the number that is left from it on: no byte is taken out of the word. low is 1 where the last byte may be no blank; up
+// where a..z are raised. Nearly all bytes are below a.
+fn tidy_byte(low: u64, up: bool, rest: u64, unit: u64) -> bool
+    requires { ⌜ (low ≤ 1) × (1 ≤ unit) × (unit ≤ 2 ^ 56) ⌝ }
+    ensures { λ r. ⌜ r ≡ tidyByte low up rest unit ⌝ }
 {
-    either(rest == 0, both(32 * unit + low <= rest, rest < 127 * unit))
+    if rest < 97 * unit {
+        return either(rest == 0, 32 * unit + low <= rest);
+    }
+    if rest < 123 * unit {
+        return !up;
+    }
+    rest < 127 * unit
 }
 
-// All eight bytes, in any case.
-fn tidy_text(low: u64, w: u64) -> bool
+// All eight bytes. The loop is over their worth, not over what is left: so its turns are known, and it is compiled without divisions.
+fn tidy_text(low: u64, up: bool, w: u64) -> bool
     requires { ⌜ low ≤ 1 ⌝ }
-    ensures { λ r. ⌜ r ≡ tidy low false 8 w ⌝ }
+    ensures { λ r. ⌜ r ≡ tidy low up 8 w ⌝ }
 {
     let mut rest = w;
     let mut unit: u64 = 0x100_0000_0000_0000;
-    while 0 < rest {
-        if tidy_byte(low, rest, unit) {
+    while 0 < unit {
+        if rest == 0 {
+            return true;
+        }
+        if tidy_byte(low, up, rest, unit) {
             rest = rest % unit;
             unit = unit / 256;
         } else {
@@ -281,76 +291,24 @@ fn tidy_text(low: u64, w: u64) -> bool
     true
 }
 
-// One byte of a word in which a..z are raised. Nearly all such bytes are below a.
-fn raised_byte(rest: u64, unit: u64) -> bool
-    requires { ⌜ (1 ≤ unit) × (unit ≤ 2 ^ 56) ⌝ }
-    ensures { λ r. ⌜ r ≡ tidyByte 1 true rest unit ⌝ }
-{
-    if rest < 97 * unit {
-        return either(rest == 0, 32 * unit < rest);
-    }
-    both(123 * unit <= rest, rest < 127 * unit)
-}
-
-// Two bytes, of which the last is worth unit.
-fn raised_pair(rest: u64, unit: u64) -> bool
-    requires { ⌜ (1 ≤ unit) × (unit ≤ 2 ^ 48) ⌝ }
-    ensures { λ r. ⌜ r ≡ raisedPair rest unit ⌝ }
-{
-    let first = 256 * unit;
-    if raised_byte(rest, first) {
-        let last = rest % first;
-        if last == 0 {
-            return true;
-        }
-        return raised_byte(last, unit);
-    }
-    false
-}
-
-// The last six bytes.
-fn raised_rest(w: u64) -> bool
-    ensures { λ r. ⌜ r ≡ tidy 1 true 6 w ⌝ }
-{
-    let half = w % 0x1_0000_0000;
-    both(
-        raised_pair(w, 0x1_0000_0000),
-        both(raised_pair(half, 0x1_0000), raised_pair(half % 0x1_0000, 1)),
-    )
-}
-
-// All eight. Most names end after the second or before it.
-fn raised_word(w: u64) -> bool
-    ensures { λ r. ⌜ r ≡ tidy 1 true 8 w ⌝ }
-{
-    if raised_pair(w, 0x1_0000_0000_0000) {
-        let rest = w % 0x1_0000_0000_0000;
-        if rest == 0 {
-            return true;
-        }
-        return raised_rest(rest);
-    }
-    false
-}
-
 // A query's text: packed, every byte 32..126.
 pub fn packed_text(w: u64) -> bool
     ensures { λ r. ⌜ r ≡ packedText w ⌝ }
 {
-    tidy_text(0, w)
+    tidy_text(0, false, w)
 }
 
 // From 33 as its first byte on, a word isn't empty and starts with no blank.
 pub fn stored_chain_id(w: u64) -> bool
     ensures { λ r. ⌜ r ≡ storedBy chainId w ⌝ }
 {
-    both(0x2100_0000_0000_0000 <= w, tidy_text(1, w))
+    both(0x2100_0000_0000_0000 <= w, tidy_text(1, false, w))
 }
 
 pub fn stored_name(w: u64) -> bool
     ensures { λ r. ⌜ r ≡ storedBy conformerName w ⌝ }
 {
-    both(0x2100_0000_0000_0000 <= w, raised_word(w))
+    both(0x2100_0000_0000_0000 <= w, tidy_text(1, true, w))
 }
 
 pub fn stored_code(w: u64) -> bool

@@ -6,8 +6,9 @@ use mathlib.Core.List.{List, [], _∷_}
 use native.Mathlib.Omega.{arith}
 use lib.ListN.{length, getD, take, drop, replicate}
 use lib.Dec.{leb, eqb}
-use borrow.Author.Tests.{eq-eqb, ne-eqb, leb-true, leb-false}
+use borrow.Author.Tests.{eq-eqb, eqb-true, leb-true, leb-false}
 use Rattle.machine.specs.Lists.{all, same}
+use Rattle.laws.specs.Lists.{and-both}
 use Rattle.machine.specs.Text.{chainId, insertionCode, conformerName, alternativeLocation, atomName, storedBy, absentOr}
 use Rattle.machine.specs.Record.{Words, words, kind, finite, fieldsOf, goodValues, goodFields, goodRecord}
 
@@ -56,10 +57,10 @@ finite-words = twelve _ (λ a b c d e f g h i j k l. simp and-last)
 eqb-same : (x : ℕ) → eqb x x ≡ true
 eqb-same x = eq-eqb x x refl
 
-pub atom-record : (r : Words) → length r ≡ 12 → kind r ≡ 5 →
-    eqb (getD r 11 0) 0 && (storedBy atomName (getD r 2 0) && ((all finite (take 5 (drop 3 r)) && leb (getD r 8 0) 118) && leb (getD r 10 0) 1)) ≡ goodRecord (5 - kind r) r
+pub atom-record : (r : Words) → length r ≡ 12 →
+    (eqb (getD r 0 0) 5 && eqb (getD r 11 0) 0) && (storedBy atomName (getD r 2 0) && ((all finite (take 5 (drop 3 r)) && leb (getD r 8 0) 118) && leb (getD r 10 0) 1)) ≡ goodRecord 0 r
 unfolding goodRecord words fieldsOf goodFields goodValues
-atom-record = twelve _ (λ a b c d e f g h i j k l q. rw q (simp (eqb-same, and-last)))
+atom-record = twelve _ (λ a b c d e f g h i j k l. simp (eqb-same, and-last, and-assoc))
 
 pub conformer-record : (r : Words) → length r ≡ 12 → kind r ≡ 4 →
     same (drop 3 r) zeros && (storedBy conformerName (getD r 1 0) && absentOr alternativeLocation (getD r 2 0)) ≡ goodRecord (5 - kind r) r
@@ -78,31 +79,24 @@ pub model-record : (r : Words) → length r ≡ 12 → kind r ≡ 1 → eqb (get
 unfolding goodRecord words fieldsOf goodFields
 model-record = twelve _ (λ a b c d e f g h i j k l q. rw q (simp (eqb-same, and-last)))
 
-other-kind : (r : Words) → length r ≡ 12 → (kind r ≡ 5 → ⊥) → goodRecord 0 r ≡ false
+pub atom-kind : (r : Words) → goodRecord 0 r ≡ true → kind r ≡ 5
 unfolding goodRecord words fieldsOf
-other-kind = twelve _ (λ a b c d e f g h i j k l q. rw (ne-eqb a 5 q))
+atom-kind [] h = absurd (false≢true h)
+atom-kind (a ∷ r) h = eqb-true a 5 (and-both (eqb a 5) _ (and-both _ _ h .0) .0)
 
--- 5 - 0 is no level, and the level of a kind above 5 is the atoms', 0
-pub no-record : (r : Words) → length r ≡ 12 → (kind r ≡ 5 → ⊥) → (kind r ≡ 4 → ⊥) → (kind r ≡ 3 → ⊥) → (kind r ≡ 2 → ⊥) → (kind r ≡ 1 → ⊥) → false ≡ goodRecord (5 - kind r) r
+-- 5 - 0 is no level
+pub no-record : (r : Words) → kind r ≤ 4 → (kind r ≡ 4 → ⊥) → (kind r ≡ 3 → ⊥) → (kind r ≡ 2 → ⊥) → (kind r ≡ 1 → ⊥) → false ≡ goodRecord (5 - kind r) r
 unfolding goodRecord goodFields
-no-record r len a b c d e = go (kind r) refl
+no-record r most b c d e =
+    let z : 5 - kind r ≡ 5 = omega arith in
+    rw z (sym (and-false (same r (words 5 (fieldsOf 5 r)))))
+
+pub good-low : (r : Words) → kind r ≤ 4 → goodRecord (5 - kind r) r ≡ true → 1 ≤ kind r
+good-low r most g = go (leb 1 (kind r)) refl
   where
-    go : (k : ℕ) → kind r ≡ k → false ≡ goodRecord (5 - kind r) r
-    go zero q = let z : 5 - kind r ≡ 5 = omega arith in rw z (sym (and-false (same r (words 5 (fieldsOf 5 r)))))
-    go (suc k) q = let z : 5 - kind r ≡ 0 = omega arith in rw z (sym (other-kind r len a))
-
-pub good-kind : (r : Words) → length r ≡ 12 → goodRecord (5 - kind r) r ≡ true → (1 ≤ kind r) × (kind r ≤ 5)
-good-kind r len g = (low (leb 1 (kind r)) refl, high (leb (kind r) 5) refl)
-  where
-    no : (1 ≤ kind r → kind r ≤ 5 → ⊥) → ⊥
-    no f =
-        let one : (k : ℕ) → 1 ≤ k → k ≤ 5 → kind r ≡ k → ⊥ = λ k a b e. f (omega arith) (omega arith) in
-        false≢true (no-record r len (one 5 (omega arith) (omega arith)) (one 4 (omega arith) (omega arith)) (one 3 (omega arith) (omega arith)) (one 2 (omega arith) (omega arith)) (one 1 (omega arith) (omega arith)) ∙ g)
-
-    low : (b : Bool) → leb 1 (kind r) ≡ b → 1 ≤ kind r
-    low true q = leb-true 1 (kind r) q
-    low false q = let l = leb-false 1 (kind r) q in absurd (no (λ a b. omega arith))
-
-    high : (b : Bool) → leb (kind r) 5 ≡ b → kind r ≤ 5
-    high true q = leb-true (kind r) 5 q
-    high false q = let l = leb-false (kind r) 5 q in absurd (no (λ a b. omega arith))
+    go : (b : Bool) → leb 1 (kind r) ≡ b → 1 ≤ kind r
+    go true q = leb-true 1 (kind r) q
+    go false q =
+        let l = leb-false 1 (kind r) q in
+        let no : (k : ℕ) → 1 ≤ k → kind r ≡ k → ⊥ = λ k h e. omega arith in
+        absurd (false≢true (no-record r most (no 4 (omega arith)) (no 3 (omega arith)) (no 2 (omega arith)) (no 1 (omega arith)) ∙ g))

@@ -1,9 +1,10 @@
 -- What the contracts of `src/` cite: the layout check's answer, and its records' part. Assumes nothing.
-use Prim.Native.Nat.{ℕ, _+_}
+use Prim.Native.Nat.{ℕ, zero, suc, _*_}
 use mathlib.Core.Bool.{cond}
 use mathlib.Core.List.{List}
+use lib.ListN.{take, drop}
 use Rattle.machine.specs.Answer.{Result, ok, refused}
-use Rattle.machine.specs.Record.{Words}
+use Rattle.machine.specs.Record.{Words, goodRecord}
 use Rattle.machine.specs.Store.{Machine, stored, inOrder}
 use Rattle.machine.specs.declared.Refusal.the-variants.{BrokenLayout}
 use Rattle.seek.specs.Seek.{atomRecords}
@@ -15,6 +16,11 @@ abbrev pub checkedBy : Result Machine → Checked
 checkedBy (ok m) = Good (stored m)
 checkedBy (refused c) = Refused c
 
--- records after one of kind q: n more than their atoms, where they stand in order
-unfoldable pub counted : ℕ → ℕ → List Words → Checked
-counted q n rs = cond (inOrder q rs) (Good (n + atomRecords rs)) (Refused BrokenLayout)
+-- how many of the records are atoms, where they stand in order
+unfoldable pub counted : List Words → Checked
+counted rs = cond (inOrder 0 rs) (Good (atomRecords rs)) (Refused BrokenLayout)
+
+-- how many of the first n records of a store are good atoms that stand last among them
+unfoldable pub trailingAtoms : ℕ → List ℕ → ℕ
+trailingAtoms zero w = 0
+trailingAtoms (suc n) w = cond (goodRecord 0 (take 12 (drop (12 * n) w))) (suc (trailingAtoms n w)) 0

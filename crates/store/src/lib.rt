@@ -8,7 +8,7 @@ ghost use Rattle.machine.specs.Lists.{all, same};
 ghost use Rattle.machine.specs.Answer.{openedNumbers};
 ghost use Rattle.machine.specs.Record.{kind, finite, fieldsOf, goodRecord, readOut};
 ghost use Rattle.machine.specs.Store.{chunks, readStore, openRun};
-ghost use Rattle.store.specs.Store.{checkedBy, counted};
+ghost use Rattle.store.specs.Store.{checkedBy, counted, trailingAtoms};
 use machine::AtomRec;
 use machine::Opened;
 use machine::Refusal;
@@ -23,12 +23,6 @@ fn both(a: bool, b: bool) -> bool
     ensures { λ r. ⌜ r ≡ (a && b) ⌝ }
 {
     a & b
-}
-
-fn one_if(b: bool) -> u64
-    ensures { λ r. ⌜ (r ≡ cond b 1 0) × (r ≤ 1) ⌝ }
-{
-    if b { 1 } else { 0 }
 }
 
 // Words not named are 0: those from 3 on, in a record above the atoms.
@@ -65,21 +59,46 @@ fn finite_words(r: &[u64]) -> bool
 // An atom's record. Element is 1 to 118 or 0, hetero 0 or 1, and word 11 is not named. The name is tested before the other words
 // are read, which would have to be kept meanwhile.
 fn good_atom(r: &[u64]) -> bool
-    requires { ⌜ (length (now r) ≡ 12) × (kind (now r) ≡ 5) ⌝ }
-    ensures { λ b. ⌜ b ≡ goodRecord (5 - kind (now (r .entry))) (now (r .entry)) ⌝ }
+    requires { ⌜ length (now r) ≡ 12 ⌝ }
+    ensures { λ b. ⌜ b ≡ goodRecord 0 (now (r .entry)) ⌝ }
 {
     let named = helper::stored_atom_name(r[2]);
     let values = both(both(finite_words(r), r[8] <= 118), r[10] <= 1);
-    both(r[11] == 0, both(named, values))
+    both(both(r[0] == 5, r[11] == 0), both(named, values))
 }
 
-// Whether twelve words are a good record of the kind that word 0 gives.
+// Where the good atoms that stand last before word `to` begin. Nearly all records are passed here.
+fn atoms_start(store: &[u64], to: usize) -> usize
+    requires { ⌜ (to ≤ length (now store)) × (to % 12 ≡ 0) ⌝ }
+    ensures { λ r. ⌜ r + 12 * trailingAtoms (to / 12) (now (store .entry)) ≡ to ⌝ }
+{
+    let mut at = to;
+    while 0 < at {
+        if good_atom(&store[at - 12..at]) {
+            at -= 12;
+        } else {
+            return at;
+        }
+    }
+    at
+}
+
+// The kind of the record that follows, past a run of atoms of that many words.
+fn following(next: u64, run: usize) -> u64
+    ensures { λ r. ⌜ r ≡ cond (eqb run 0) next 5 ⌝ }
+{
+    if run == 0 {
+        return next;
+    }
+    5
+}
+
+// Whether twelve words are a good record of the kind that word 0 gives, above the atoms.
 fn good_record(r: &[u64]) -> bool
-    requires { ⌜ length (now r) ≡ 12 ⌝ }
+    requires { ⌜ (length (now r) ≡ 12) × (kind (now r) ≤ 4) ⌝ }
     ensures { λ b. ⌜ b ≡ goodRecord (5 - kind (now (r .entry))) (now (r .entry)) ⌝ }
 {
     match r[0] {
-        5 => good_atom(r),
         4 => both(
             unnamed_zero(r),
             both(helper::stored_name(r[1]), helper::stored_location(r[2])),
@@ -94,26 +113,37 @@ fn good_record(r: &[u64]) -> bool
     }
 }
 
-// The first kind is 1; each later kind is 1 to 5 and at most the previous plus 1. The atoms are counted on the way.
+// "The first kind is 1; each later kind is 1 to 5 and at most the previous plus 1." From the last record to the first: what is read
+// last here is what a search reads first. Past a run of good atoms, an atom is a bad one. The atoms are counted on the way.
 fn check_records(store: &[u64], end: usize) -> Checked
     requires { ⌜ (end ≤ length (now store)) × (end % 12 ≡ 0) ⌝ }
-    ensures { λ r. ⌜ r ≡ counted 0 0 (chunks (end / 12) (now (store .entry))) ⌝ }
+    ensures { λ r. ⌜ r ≡ counted (chunks (end / 12) (now (store .entry))) ⌝ }
 {
-    let mut at: usize = 0;
-    let mut previous: u64 = 0;
+    let mut at = end;
+    let mut next: u64 = 0;
     let mut atoms: u64 = 0;
-    while at < end {
-        let k = store[at];
-        if previous + 1 < k {
+    while 0 < at {
+        let from = atoms_start(store, at);
+        if from == 0 {
             return Checked::Refused(Refusal::BrokenLayout);
         }
-        if good_record(&store[at..at + 12]) {
-            atoms += one_if(k == 5);
-            previous = k;
-            at += 12;
+        let k = store[from - 12];
+        if 4 < k {
+            return Checked::Refused(Refusal::BrokenLayout);
+        }
+        if k + 1 < following(next, at - from) {
+            return Checked::Refused(Refusal::BrokenLayout);
+        }
+        if good_record(&store[from - 12..from]) {
+            atoms += ((at - from) / 12) as u64;
+            next = k;
+            at = from - 12;
         } else {
             return Checked::Refused(Refusal::BrokenLayout);
         }
+    }
+    if 1 < next {
+        return Checked::Refused(Refusal::BrokenLayout);
     }
     Checked::Good(atoms)
 }

@@ -1,4 +1,7 @@
 -- `edits::apply_good` meets its contract. Assumes nothing.
+use Prim.Native.Nat.{_/_, _<_}
+use native.Mathlib.Omega.{arith}
+use lib.ListN.{length}
 use borrow.Author.Needs.{needs}
 use Rattle.edits.proofs.Lists.{bad-list, list-reads, short-answers, answers-room, list-done}
 use Rattle.edits.proofs.apply_good.Statement.{statement}
@@ -14,7 +17,10 @@ enum-known-counted : tie.Need-enum-known-counted
 enum-known-counted c = search needs
 
 returns : tie.Need-returns
-returns c = search (needs, short-answers)
+returns c =
+    let s = c .before .before .before .before .before .before .before .before in
+    let l : length (s .args .out .now) / 3 < c .before .before .counted .given .0 .0 = omega arith in
+    search (needs, short-answers)
 
 apply-all-requires : tie.Need-apply-all-requires
 apply-all-requires c κs = search (needs, list-reads, answers-room)

@@ -4,8 +4,8 @@ use borrow.Author.Needs.{needs}
 use Rattle.helper.proofs.stored_name.Statement.{statement}
 use Rattle.helper.proofs.stored_name.Tie as tie
 
-raised-word-requires : tie.Need-raised-word-requires
-raised-word-requires c κs = search needs
+tidy-text-requires : tie.Need-tidy-text-requires
+tidy-text-requires c κs = search needs
 
 both-requires : tie.Need-both-requires
 both-requires c κs = search needs
@@ -14,4 +14,4 @@ returns : tie.Need-returns
 returns c = search (needs, name-stored)
 
 pub stored-name-spec : {M : Type 1} → statement M
-stored-name-spec = tie.close (tie.spec raised-word-requires both-requires returns)
+stored-name-spec = tie.close (tie.spec tidy-text-requires both-requires returns)

@@ -1,27 +1,46 @@
--- `helper::tidy_byte` is `tidyByte` in any case. Assumes nothing.
-use Rattle.helper.proofs.Stored.{any-byte}
+-- `helper::tidy_byte` is `tidyByte`. Assumes nothing.
+use Rattle.helper.proofs.Stored.{byte-low, byte-letter, byte-high}
 use borrow.Author.Needs.{needs}
 use Rattle.helper.proofs.tidy_byte.Statement.{statement}
 use Rattle.helper.proofs.tidy_byte.Tie as tie
 
-mul-both : tie.Need-mul-both
-mul-both c = search needs
+mul-if1 : tie.Need-mul-if1
+mul-if1 c = search needs
 
-add-both : tie.Need-add-both
-add-both c = search needs
+mul-either : tie.Need-mul-either
+mul-either c = search needs
 
-mul-both-2 : tie.Need-mul-both-2
-mul-both-2 c = search needs
-
-both-requires : tie.Need-both-requires
-both-requires c κs = search needs
+add-either : tie.Need-add-either
+add-either c = search needs
 
 either-requires : tie.Need-either-requires
 either-requires c κs = search needs
 
 returns : tie.Need-returns
-returns c = search (needs, any-byte)
+returns c = search (needs, byte-low)
+
+mul-if2 : tie.Need-mul-if2
+mul-if2 c = search needs
+
+returns-2 : tie.Need-returns-2
+returns-2 c = search (needs, byte-letter)
+
+mul-result : tie.Need-mul-result
+mul-result c = search needs
+
+returns-3 : tie.Need-returns-3
+returns-3 c = search (needs, byte-high)
 
 pub tidy-byte-spec : {M : Type 1} → statement M
 tidy-byte-spec =
-    tie.close (tie.spec mul-both add-both mul-both-2 both-requires either-requires returns)
+    tie.close
+    (tie.spec
+    mul-if1
+    mul-either
+    add-either
+    either-requires
+    returns
+    mul-if2
+    returns-2
+    mul-result
+    returns-3)

@@ -1,35 +1,38 @@
--- `helper::tidy_text` is `tidy` of eight bytes in any case: one byte to a turn. The measure is the worth of a byte. Assumes nothing.
-use Rattle.helper.proofs.Stored.{TextLeft, text-begin, text-unit, text-less, text-again, text-not, text-done}
+-- `helper::tidy_text` is `tidy` of eight bytes: one byte to a turn. The measure is the worth of a byte. Assumes nothing.
+use Rattle.helper.proofs.Stored.{TextLeft, text-begin, text-all, text-again, text-not, text-done}
 use borrow.Author.Needs.{needs}
 use Rattle.helper.proofs.tidy_text.Statement.{statement}
 use Rattle.helper.proofs.tidy_text.Tie as tie
 
 abbrev Inv-loop : tie.InvT-loop
-Inv-loop low w rest₀ unit₀ rest unit = TextLeft low w rest unit
+Inv-loop low up w rest₀ unit₀ rest unit = TextLeft low up w rest unit
 
 abbrev μ-loop : tie.MeasureT-loop
-μ-loop low w rest₀ unit₀ rest unit = unit
+μ-loop low up w rest₀ unit₀ rest unit = unit
 
 loop-holds : tie.Need-loop-holds Inv-loop μ-loop
 loop-holds c = search (needs, text-begin)
+
+returns : tie.Need-returns Inv-loop μ-loop
+returns c = search (needs, text-done)
 
 tidy-byte-requires : tie.Need-tidy-byte-requires Inv-loop μ-loop
 tidy-byte-requires c κs = search needs
 
 rem-rest : tie.Need-rem-rest Inv-loop μ-loop
-rem-rest c = search (needs, text-unit)
+rem-rest c = search needs
 
 loop-less : tie.Need-loop-less Inv-loop μ-loop
-loop-less c = search (needs, text-less)
+loop-less c = search needs
 
 loop-again : tie.Need-loop-again Inv-loop μ-loop
 loop-again c = search (needs, text-again)
 
-returns : tie.Need-returns Inv-loop μ-loop
-returns c = search (needs, text-not)
-
 returns-2 : tie.Need-returns-2 Inv-loop μ-loop
-returns-2 c = search (needs, text-done)
+returns-2 c = search (needs, text-not)
+
+returns-3 : tie.Need-returns-3 Inv-loop μ-loop
+returns-3 c = search (needs, text-all)
 
 pub tidy-text-spec : {M : Type 1} → statement M
 tidy-text-spec =
@@ -38,9 +41,10 @@ tidy-text-spec =
     Inv-loop
     μ-loop
     loop-holds
+    returns
     tidy-byte-requires
     rem-rest
     loop-less
     loop-again
-    returns
-    returns-2)
+    returns-2
+    returns-3)

@@ -1,6 +1,6 @@
--- `store::good_atom` meets its contract: its tests are those of `goodRecord` at kind 5. Assumes nothing.
-use borrow.Author.Needs.{needs}
+-- `store::good_atom` meets its contract, by the law of `goodRecord` at the atoms' level. Assumes nothing.
 use Rattle.store.proofs.Laws.{atom-record}
+use borrow.Author.Needs.{needs}
 use Rattle.store.proofs.good_atom.Statement.{statement}
 use Rattle.store.proofs.good_atom.Tie as tie
 
@@ -28,16 +28,22 @@ both-requires-2 c κs = search needs
 shared-slice-read-both-3 : tie.Need-shared-slice-read-both-3
 shared-slice-read-both-3 c = search needs
 
+shared-slice-read-both-4 : tie.Need-shared-slice-read-both-4
+shared-slice-read-both-4 c = search needs
+
 both-requires-3 : tie.Need-both-requires-3
 both-requires-3 c κs = search needs
 
 both-requires-4 : tie.Need-both-requires-4
 both-requires-4 c κs = search needs
 
+both-requires-5 : tie.Need-both-requires-5
+both-requires-5 c κs = search needs
+
 returns : tie.Need-returns
 returns c =
-    let s = c .before .before .before .before .before .before .before .before .before .before .before in
-    cc (atom-record (s .args .r .now) (s .pre .0) (s .pre .1))
+    let s = c .before .before .before .before .before .before .before .before .before .before .before .before .before in
+    cc (atom-record (s .args .r .now) (s .pre))
 
 pub good-atom-spec : {M : Type 1} → statement M
 good-atom-spec =
@@ -51,6 +57,8 @@ good-atom-spec =
     shared-slice-read-both-2
     both-requires-2
     shared-slice-read-both-3
+    shared-slice-read-both-4
     both-requires-3
     both-requires-4
+    both-requires-5
     returns)

@@ -1,14 +1,11 @@
--- `store::good_record` meets its contract: one law of `goodRecord` for each kind, and one for all other words. Assumes nothing.
-use borrow.Author.Needs.{needs}
+-- `store::good_record` meets its contract: one law of `goodRecord` for each kind above the atoms, and one for all other words. Assumes nothing.
 use Rattle.store.proofs.Laws.{conformer-record, residue-record, chain-record, model-record, no-record}
+use borrow.Author.Needs.{needs}
 use Rattle.store.proofs.good_record.Statement.{statement}
 use Rattle.store.proofs.good_record.Tie as tie
 
 shared-slice-read-match : tie.Need-shared-slice-read-match
 shared-slice-read-match c = search needs
-
-good-atom-requires : tie.Need-good-atom-requires
-good-atom-requires c κs = search needs
 
 unnamed-zero-requires : tie.Need-unnamed-zero-requires
 unnamed-zero-requires c κs = search needs
@@ -71,40 +68,36 @@ both-requires-6 : tie.Need-both-requires-6
 both-requires-6 c κs = search needs
 
 returns : tie.Need-returns
-returns c = search needs
+returns c =
+    let s = c .before .before .before .before .before .before .before .before .before .before in
+    cc (conformer-record (s .args .r .now) (s .pre .0) (c .before .before .before .before .before .before .before .match .keys1))
 
 returns-2 : tie.Need-returns-2
 returns-2 c =
-    let s = c .before .before .before .before .before .before .before .before .before .before in
-    cc (conformer-record (s .args .r .now) (s .pre) (c .before .before .before .before .before .before .before .match .keys2))
+    let s = c .before .before .before .before .before .before .before in
+    cc (residue-record (s .args .r .now) (s .pre .0) (c .before .before .before .before .match .keys2))
 
 returns-3 : tie.Need-returns-3
 returns-3 c =
-    let s = c .before .before .before .before .before .before .before in
-    cc (residue-record (s .args .r .now) (s .pre) (c .before .before .before .before .match .keys3))
+    let s = c .before .before .before .before .before .before .before .before .before in
+    cc (chain-record (s .args .r .now) (s .pre .0) (c .before .before .before .before .before .before .match .keys3))
 
 returns-4 : tie.Need-returns-4
 returns-4 c =
-    let s = c .before .before .before .before .before .before .before .before .before in
-    cc (chain-record (s .args .r .now) (s .pre) (c .before .before .before .before .before .before .match .keys4))
+    let s = c .before .before .before .before .before .before in
+    cc (model-record (s .args .r .now) (s .pre .0) (c .before .before .before .match .keys4))
 
 returns-5 : tie.Need-returns-5
 returns-5 c =
-    let s = c .before .before .before .before .before .before in
-    cc (model-record (s .args .r .now) (s .pre) (c .before .before .before .match .keys5))
-
-returns-6 : tie.Need-returns-6
-returns-6 c =
     let s = c .before .before .before in
     let no = c .match .rest in
-    no-record (s .args .r .now) (s .pre) (no .0 .0 .0 .0 .1) (no .0 .0 .0 .1) (no .0 .0 .1) (no .0 .1) (no .1)
+    no-record (s .args .r .now) (s .pre .1) (no .0 .0 .0 .1) (no .0 .0 .1) (no .0 .1) (no .1)
 
 pub good-record-spec : {M : Type 1} → statement M
 good-record-spec =
     tie.close
     (tie.spec
     shared-slice-read-match
-    good-atom-requires
     unnamed-zero-requires
     shared-slice-read-stored-name
     stored-name-requires
@@ -129,5 +122,4 @@ good-record-spec =
     returns-2
     returns-3
     returns-4
-    returns-5
-    returns-6)
+    returns-5)
