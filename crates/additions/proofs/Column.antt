@@ -2,7 +2,7 @@
 -- Assumes nothing.
 use Prim.Native.Nat.{ℕ, suc, _+_, _≤_, _<_}
 use mathlib.Core.Path.{_≡_, refl, sym, ap, _∙_}
-use mathlib.Core.Bool.{Bool, true, false, _&&_}
+use mathlib.Core.Bool.{Bool, true, false, _&&_, and-true}
 use mathlib.Core.List.{List, [], _∷_, _++_, append-assoc, append-nil}
 use mathlib.Core.Option.{Option, none, some, Option·map}
 use native.Mathlib.Nat.{zero-add}
@@ -13,27 +13,17 @@ use lib.Dec.{eqb}
 use Rattle.machine.specs.Lists.{bind}
 use Rattle.machine.specs.Record.{Fields, Words, words, kind}
 use Rattle.machine.specs.Store.{Branch, Machine, flat, chunks}
-use Rattle.machine.specs.Edit.{NewAtom, Prepare, Which, first, last, pick, root, upsert, newAtom, intoChains, replaceAt}
-use Rattle.laws.specs.Lists.{All, All-map, All-append, bind-append}
-use Rattle.laws.specs.Grouped.{words-kind, chunks-length}
-use Rattle.laws.specs.Scan.{Ends}
+use Rattle.machine.specs.Edit.{NewAtom, Prepare, Which, first, last, pick, upsert, newAtom, intoChains, replaceAt}
+use Rattle.laws.specs.Lists.{All-map, bind-append}
+use Rattle.laws.specs.Grouped.{flats-kinds, chunks-length}
+use Rattle.laws.specs.Scan.{ends-branches}
 use Rattle.laws.specs.Places.{Around, Spot}
 use Rattle.seek.specs.Seek.{between, run}
-use Rattle.seek.specs.Below.{chunks-take, run-over, flat-root, flat-kinds}
+use Rattle.seek.specs.Below.{chunks-take, run-over}
 use Rattle.places.specs.Pick.{Key, marks, pickSpan, spotIn}
 use Rattle.places.specs.Place.{column}
 use Rattle.places.proofs.Picks.{chosen, pick-over, unmarked}
 use Rattle.additions.specs.Add.{keysOf}
-
--- ---- the records of branches below a record of kind h
-
-ends-branches : (h k : ℕ) → h + k ≡ 5 → k ≤ 4 → (ts : List (Branch k)) → Ends h (bind (flat k) ts)
-ends-branches h k l b [] = tt
-ends-branches h k l b (t ∷ ts) = rw (flat-root k t) (omega (arith, words-kind k b (root k t)))
-
-kinds-branches : (h k : ℕ) → h + k ≡ 4 → (ts : List (Branch k)) → All (λ r. h < kind r) (bind (flat k) ts)
-kinds-branches h k l [] = tt
-kinds-branches h k l (t ∷ ts) = All-append _ (flat k t) (bind (flat k) ts) (flat-kinds h k (omega arith) t) (kinds-branches h k l ts)
 
 -- records of kind h are marked as p says of their fields, and none of a higher kind is
 module _ (h k : ℕ) (level : h + k ≡ 4) (mark : Words → Bool) (other : (r : Words) → h < kind r → mark r ≡ false)
@@ -49,7 +39,7 @@ module _ (h k : ℕ) (level : h + k ≡ 4) (mark : Words → Bool) (other : (r :
   pick-first : (w : Which) (b : Bool) (t : Branch (suc k)) (ts : List (Branch (suc k))) → p (t .0) ≡ b
       → pick w mark (all (t ∷ ts)) ≡ chosen w b (Option·map (λ i. length (bind (flat k) (t .1)) + i) (pick w mark (all ts)))
   unfolding flat
-  pick-first w b t ts e = go w ∙ rw (finds (t .0), e, pick-over mark w (bind (flat k) (t .1)) (all ts) (All-map other (bind (flat k) (t .1)) (kinds-branches h k level (t .1))))
+  pick-first w b t ts e = go w ∙ rw (finds (t .0), e, pick-over mark w (bind (flat k) (t .1)) (all ts) (All-map other (bind (flat k) (t .1)) (flats-kinds h k (omega arith) (t .1))))
     where
       go : (v : Which) → pick v mark (words (suc k) (t .0) ∷ (bind (flat k) (t .1) ++ all ts)) ≡ chosen v (mark (words (suc k) (t .0))) (pick v mark (bind (flat k) (t .1) ++ all ts))
       go first = refl
@@ -120,7 +110,7 @@ module _ (h k : ℕ) (level : h + k ≡ 4) (w : List ℕ) (from end i : ℕ) (ts
   after-start = rw (parts, append-assoc lead kids rest) (drop-at lead (kids ++ rest) _ lead-length)
 
   kids-run : run h (kids ++ rest) ≡ length kids
-  kids-run = run-over h kids rest (kinds-branches h k level (t .1)) (ends-branches h (suc k) (omega arith) (omega arith) (a .after))
+  kids-run = run-over h kids rest (flats-kinds h k (omega arith) (t .1)) (ends-branches h (suc k) (omega arith) (omega arith) (a .after))
 
   kids-below : between (start + 1) stop w ≡ kids
   kids-below =
@@ -216,15 +206,11 @@ module _ (h k : ℕ) (level : h + k ≡ 4) (low : 1 ≤ h) (key : Key) (p : Fiel
 
 -- ---- an atom in a model
 
-and-right : (b : Bool) → b && true ≡ b
-and-right true = refl
-and-right false = refl
-
 -- the three levels below a model
 pub puts-chains : (a : NewAtom) (p : Prepare) → Puts 2 3 (intoChains a p) (keysOf p (a .residue) (a .code) (a .location)) (column p (a .residue) (newAtom a p))
 unfolding words
 puts-chains a p =
-    puts-level 2 2 refl (omega arith) _ _ _ _ _ _ (λ d. and-right (eqb (d .id) (p .chain)))
+    puts-level 2 2 refl (omega arith) _ _ _ _ _ _ (λ d. and-true (eqb (d .id) (p .chain)))
     (puts-level 3 1 refl (omega arith) _ _ _ _ _ _ (λ d. refl)
     (puts-level 4 0 refl (omega arith) _ _ _ _ _ _ (λ d. refl) (puts-atom 5 (newAtom a p))))
 

@@ -29,14 +29,13 @@ use Rattle.moves.proofs.Laws.{over-at}
 use Rattle.moves.proofs.Records.{Twelve, twelve-take, twelve-drop, blank, blank-twelve, insert-laid, write-laid, drop-records}
 use Rattle.seek.specs.Seek.{held, Good, Within, between, isAtom, atomRecords, span, spanOf}
 use Rattle.seek.specs.Below.{between-cons}
-use Rattle.seek.specs.Laws.{records-count, atoms-stored, Stands, stands, missing, stands-within, stands-records}
+use Rattle.seek.specs.Laws.{records-count, atoms-stored, at-span, Stands, stands, missing, stands-within, stands-records}
 use Rattle.seek.specs.declared.Span as Span
 use Rattle.places.specs.Place.{Known, Lands, column, Grown, Moves}
 use Rattle.places.specs.Pick.{spotIn, foundOf}
 use Rattle.places.specs.declared.Place as Place
 use Rattle.places.specs.declared.Spot as Spot
 use Rattle.places.proofs.Spans.{model-inside, model-span}
-use Rattle.places.proofs.Laws.{at-span}
 use Rattle.additions.specs.Add.{keysOf, columnWords, preparedOf, resultOf, given, named, atomOf, wordOf, put, intoModel}
 use Rattle.additions.specs.declared.NewAtom as Values
 use Rattle.additions.specs.declared.Names as Names

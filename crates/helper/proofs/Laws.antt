@@ -1,21 +1,20 @@
 -- Laws of texts, one for each place of the code. Assumes nothing.
-use Prim.Native.Nat.{ℕ, zero, suc, _+_, _-_, _*_, _/_, _%_, _^_, _≤_, _<_}
+use Prim.Native.Nat.{ℕ, zero, suc, _+_, _-_, _*_, _^_, _≤_, _<_}
 use mathlib.Core.Path.{_≡_, refl, sym, ap, _∙_}
 use mathlib.Core.Bool.{Bool, true, false, cond, not, _&&_, false≢true, and-false}
 use mathlib.Core.List.{List, [], _∷_, _++_, reverse, map, reverse-append, reverse-reverse}
 use native.Mathlib.Numerals.{add-one}
-use native.Mathlib.Nat.{pow-suc, one-le-pow, mul-le-mul-right, div-eq-of-lt, mod-eq-of-lt, mul-add-div-right, mul-add-mod-self-right, zero-div, zero-mod}
 use native.Mathlib.Omega.{arith}
 use lib.ListN.{length, take, drop, getD, length-drop, drop-of-length-le, List·getD-eq-default, List·getD-map, length-map}
 use lib.Seq.{drop-cons, take-suc, take-length, length-take-le}
 use lib.Dec.{eqb, ltb}
-use borrow.Author.Tests.{eq-eqb, ne-eqb, eqb-true, le-leb, lt-leb, lt-ltb, le-ltb}
-use Rattle.machine.specs.Lists.{all, isEmpty, same}
+use borrow.Author.Tests.{eq-eqb, ne-eqb, le-leb, lt-leb, lt-ltb, le-ltb}
+use Rattle.machine.specs.Lists.{all, isEmpty}
 use Rattle.machine.specs.Text.{packed, pack, unpacked, beforeZeros, withoutZeros, textOf, plain, blank, raise, trimStart, trim, fit, chainId, raised, atomName, byFlag, matches, matchesOptional}
 use Rattle.machine.specs.declared.Prepared.{Prepared}
 use Rattle.machine.specs.declared.Prepared.the-variants.{Stored, Absent, Bad}
-use Rattle.laws.specs.Lists.{and-both, same-true, same-refl}
-use Rattle.laws.specs.Packing.{pack-textOf, length-textOf, both-ways}
+use Rattle.laws.specs.Packing.{packed-none, length-textOf, Bytes, text-packed}
+use Rattle.laws.specs.Text.{matches-kept, matches-none}
 use Rattle.helper.specs.Tidy.{trimEnd, inCase}
 
 -- ---- trimming
@@ -164,11 +163,6 @@ packed-at zero n (b ∷ bs) = refl
 packed-at (suc i) n [] = omega arith
 packed-at (suc i) n (b ∷ bs) = packed-at i n bs
 
-packed-none : (t : List ℕ) → packed zero t ≡ 0
-unfolding packed
-packed-none [] = refl
-packed-none (b ∷ bs) = refl
-
 eight-digits : (t : List ℕ) → pack t ≡ getD t 0 0 * 0x100_0000_0000_0000 + getD t 1 0 * 0x1_0000_0000_0000 + getD t 2 0 * 0x100_0000_0000
     + getD t 3 0 * 0x1_0000_0000 + getD t 4 0 * 0x100_0000 + getD t 5 0 * 0x1_0000 + getD t 6 0 * 0x100 + getD t 7 0
 eight-digits t =
@@ -190,7 +184,7 @@ pack-eight t d₀ d₁ d₂ d₃ d₄ d₅ d₆ d₇ h₀ h₁ h₂ h₃ h₄ h�
 
 -- ---- made ready for the store
 
-pub length-case : (up : Bool) (t : List ℕ) → length (inCase up t) ≡ length t
+length-case : (up : Bool) (t : List ℕ) → length (inCase up t) ≡ length t
 length-case true t = length-map t raise
 length-case false t = refl
 
@@ -287,63 +281,26 @@ withoutZeros-closed (b ∷ []) h = go (eqb b 0) h
     go false e = refl
 withoutZeros-closed (b ∷ c ∷ cs) h = rw (withoutZeros-closed (c ∷ cs) h, and-false (eqb b 0))
 
-abbrev Bytes : List ℕ → Type 0
-Bytes t = (i : ℕ) → getD t i 0 < 256
-
-packed-small : (n : ℕ) (t : List ℕ) → Bytes t → packed n t < 256 ^ n
-unfolding packed
-packed-small n [] h = one-le-pow n 256 (omega arith)
-packed-small zero (b ∷ bs) h = omega arith
-packed-small (suc n) (b ∷ bs) h =
-    let i = packed-small n bs (λ j. h (suc j)) in
-    let m : b * 256 ^ n ≤ 255 * 256 ^ n = mul-le-mul-right (256 ^ n) (omega (arith, h 0)) in
-    let e : 256 ^ suc n ≡ 256 ^ n * 256 = pow-suc 256 n in
-    omega arith
-
-pub text-zero : (n : ℕ) → withoutZeros (unpacked n 0) ≡ []
-unfolding withoutZeros unpacked
-text-zero zero = refl
-text-zero (suc n) = rw (zero-div, zero-mod, text-zero n)
-
--- any bytes, packed and unpacked, lose the zeros at their end
-text-packed : (n : ℕ) (t : List ℕ) → length t ≤ n → Bytes t → withoutZeros (unpacked n (packed n t)) ≡ withoutZeros t
-unfolding withoutZeros unpacked packed
-text-packed n [] l h = text-zero n
-text-packed zero (b ∷ bs) l h = absurd (omega arith)
-text-packed (suc n) (b ∷ bs) l h =
-    let i = packed-small n bs (λ j. h (suc j)) in
-    let r = text-packed n bs (omega arith) (λ j. h (suc j)) in
-    let d : (b * 256 ^ n + packed n bs) / 256 ^ n ≡ b = mul-add-div-right (omega arith) b (packed n bs) ∙ rw (div-eq-of-lt i) (omega arith) in
-    let m : (b * 256 ^ n + packed n bs) % 256 ^ n ≡ packed n bs = mul-add-mod-self-right b (256 ^ n) (packed n bs) ∙ mod-eq-of-lt i in
-    rw (d, m, r)
-
-no-match : (t : List ℕ) (w : ℕ) → (t ≡ textOf w → ⊥) → false ≡ matches t w
-unfolding matches
-no-match t w n = both-ways false (not (isEmpty t) && same t (textOf w)) (λ e. absurd (false≢true e))
-    (λ e. absurd (n (same-true t (textOf w) (and-both (not (isEmpty t)) (same t (textOf w)) e .1))))
-
 module _ (t : List ℕ) (w : ℕ) where
   pub match-none : length t < 1 → false ≡ matches t w
   unfolding matches
   match-none h = rw (any-byte t, le-ltb 0 (length t) (omega arith))
 
   pub match-long : 8 < length t → false ≡ matches t w
-  match-long h = no-match t w (λ e. omega (arith, length-textOf w, ap length e))
+  match-long h = sym (matches-none t w (λ e. omega (arith, length-textOf w, ap length e)))
 
   pub match-zero : 1 ≤ length t → getD t (length t - 1) 0 ≡ 0 → false ≡ matches t w
   unfolding textOf
   match-zero h z =
       let k : closed t ≡ false = closed-last t h ∙ rw (eq-eqb (getD t (length t - 1) 0) 0 z) in
-      no-match t w (λ e. false≢true (sym k ∙ ap closed e ∙ closed-withoutZeros (unpacked 8 w)))
+      sym (matches-none t w (λ e. false≢true (sym k ∙ ap closed e ∙ closed-withoutZeros (unpacked 8 w))))
 
   pub match-word : (p : ℕ) → Bytes t → 1 ≤ length t → length t ≤ 8 → (getD t (length t - 1) 0 ≡ 0 → ⊥) → p ≡ pack t → eqb p w ≡ matches t w
-  unfolding matches textOf
+  unfolding textOf
   match-word p b h l z e =
       let k : closed t ≡ true = closed-last t h ∙ rw (ne-eqb (getD t (length t - 1) 0) 0 z) in
       let o : textOf (pack t) ≡ t = text-packed 8 t l b ∙ withoutZeros-closed t k in
-      rw (any-byte t, lt-ltb 0 (length t) h, e) (both-ways (eqb (pack t) w) (same t (textOf w))
-      (λ q. rw (← eqb-true (pack t) w q, o) (same-refl t))
-      (λ q. eq-eqb (pack t) w (ap pack (same-true t (textOf w) q) ∙ pack-textOf w)))
+      rw e (sym (matches-kept t w o (any-byte t ∙ lt-ltb 0 (length t) h)))
 
   module _ (flag : ℕ) where
     pub optional-absent : flag ≡ 0 → eqb w 0 ≡ matchesOptional (record { flag = flag; text = t }) w

@@ -5,7 +5,7 @@ use mathlib.Core.Bool.{Bool, true, false, cond, not, _&&_, _||_, false≢true, a
 use mathlib.Core.List.{List, [], _∷_, _++_, map, reverse, reverse-cons, reverse-reverse}
 use native.Mathlib.Nat.{add-zero, zero-add, zero-mul, one-le-pow, pow-suc, suc-mul, mul-div-cancel, mul-le-mul-right, div-add-mod', mod-lt, mod-one, zero-mod}
 use native.Mathlib.Omega.{arith}
-use lib.ListN.{length, length-append}
+use lib.ListN.{length}
 use lib.Dec.{leb, ltb, eqb}
 use borrow.Author.Tests.{eq-eqb, ne-eqb, eqb-true, eqb-false, le-leb, lt-leb, lt-ltb, le-ltb, leb-true, leb-false}
 use Rattle.machine.specs.Lists.{all, isEmpty}
@@ -13,9 +13,9 @@ use Rattle.machine.specs.Text.{packed, pack, unpacked, beforeZeros, withoutZero
 use Rattle.machine.specs.declared.Prepared.{Prepared}
 use Rattle.machine.specs.declared.Prepared.the-variants.{Stored, Absent, Bad}
 use Rattle.laws.specs.Lists.{and-both}
-use Rattle.laws.specs.Packing.{pack-textOf, textOf-pack, length-textOf, both-ways}
+use Rattle.laws.specs.Packing.{pack-textOf, length-textOf, plain-is, both-ways}
+use Rattle.laws.specs.Text.{trimStart-trim, trim-twice, all-trim, not-blank, is-plain, all-raise, trim-raise, bad-stores-none, absent-stores-none, stored-where, fit-text, stored-again}
 use Rattle.helper.specs.Tidy.{inCase, tidyByte, tidy}
-use Rattle.helper.proofs.Laws.{length-case}
 
 -- ---- the code's tests, unfolded
 
@@ -220,98 +220,34 @@ trimStart-begins (b ∷ bs) h = go (blank b) h
     go true e = absurd (false≢true e)
     go false e = refl
 
-trimStart-short : (t : List ℕ) → length (trimStart t) ≤ length t
-unfolding trimStart
-trimStart-short [] = omega arith
-trimStart-short (b ∷ bs) = go (blank b) (trimStart-short bs)
-  where
-    go : (a : Bool) → length (trimStart bs) ≤ length bs → length (cond a (trimStart bs) (b ∷ bs)) ≤ length (b ∷ bs)
-    go true i = omega arith
-    go false i = omega arith
-
--- where nothing is trimmed, there is no blank
-begins-long : (t : List ℕ) → length t ≤ length (trimStart t) → begins t ≡ true
+begins-trimStart : (t : List ℕ) → begins (trimStart t) ≡ true
 unfolding trimStart begins
-begins-long [] h = refl
-begins-long (b ∷ bs) h = go (blank b) h (trimStart-short bs)
+begins-trimStart [] = refl
+begins-trimStart (b ∷ bs) = go (blank b) refl (begins-trimStart bs)
   where
-    go : (a : Bool) → length (b ∷ bs) ≤ length (cond a (trimStart bs) (b ∷ bs)) → length (trimStart bs) ≤ length bs → not a ≡ true
-    go true l i = absurd (omega arith)
-    go false l i = refl
-
-length-reverse : (t : List ℕ) → length (reverse t) ≡ length t
-length-reverse [] = refl
-length-reverse (b ∷ bs) = rw (reverse-cons b bs, length-append (reverse bs) (b ∷ []), length-reverse bs) (omega arith)
+    go : (a : Bool) → blank b ≡ a → begins (trimStart bs) ≡ true → begins (cond a (trimStart bs) (b ∷ bs)) ≡ true
+    go true e i = i
+    go false e i = rw e
 
 trim-begins : (t : List ℕ) → begins t ≡ true → begins (reverse t) ≡ true → trim t ≡ t
 unfolding trim
 trim-begins t p q = rw (trimStart-begins t p, trimStart-begins (reverse t) q) (reverse-reverse t)
 
--- a text that trimming leaves as long as it is
-record Trimmed (t : List ℕ) : Type 0 where
-  starts : begins t ≡ true
-  ends : begins (reverse t) ≡ true
+-- a trimmed text has no blank at either end
+begins-trim : (t : List ℕ) → begins (trim t) ≡ true
+begins-trim t = rw (← trimStart-trim t) (begins-trimStart (trim t))
 
-length-trimmed : (t : List ℕ) → length t ≤ length (trim t) → Trimmed t
+ends-trim : (t : List ℕ) → begins (reverse (trim t)) ≡ true
 unfolding trim
-length-trimmed t h =
-    let s = trimStart t in
-    let a = trimStart-short t in
-    let b = trimStart-short (reverse s) in
-    let c = length-reverse s in
-    let d = length-reverse (trimStart (reverse s)) in
-    let p : begins t ≡ true = begins-long t (omega arith) in
-    let e : s ≡ t = trimStart-begins t p in
-    record { starts = p; ends = rw (← e) (begins-long (reverse s) (omega arith)) }
+ends-trim t = rw reverse-reverse (begins-trimStart (reverse (trimStart t)))
 
-trim-short : (t : List ℕ) → length (trim t) ≤ length t
-unfolding trim
-trim-short t =
-    let s = trimStart t in
-    let a = trimStart-short t in
-    let b = trimStart-short (reverse s) in
-    let c = length-reverse s in
-    let d = length-reverse (trimStart (reverse s)) in
-    omega arith
-
-all-append : (s t : List ℕ) → all plain s ≡ true → all plain t ≡ true → all plain (s ++ t) ≡ true
-all-append [] t p q = q
-all-append (b ∷ bs) t p q = let r = and-both (plain b) (all plain bs) p in rw (r .0) (all-append bs t (r .1) q)
-
-all-reverse : (t : List ℕ) → all plain t ≡ true → all plain (reverse t) ≡ true
-all-reverse [] h = refl
-all-reverse (b ∷ bs) h =
-    let p = and-both (plain b) (all plain bs) h in
-    rw (reverse-cons b bs) (all-append (reverse bs) (b ∷ []) (all-reverse bs (p .1)) (rw (p .0)))
-
-all-trimStart : (t : List ℕ) → all plain t ≡ true → all plain (trimStart t) ≡ true
-unfolding trimStart
-all-trimStart [] h = refl
-all-trimStart (b ∷ bs) h = go (blank b) (all-trimStart bs (and-both (plain b) (all plain bs) h .1))
-  where
-    go : (a : Bool) → all plain (trimStart bs) ≡ true → all plain (cond a (trimStart bs) (b ∷ bs)) ≡ true
-    go true i = i
-    go false i = h
-
-all-trim : (t : List ℕ) → all plain t ≡ true → all plain (trim t) ≡ true
-unfolding trim
-all-trim t h = all-reverse (trimStart (reverse (trimStart t))) (all-trimStart (reverse (trimStart t)) (all-reverse (trimStart t) (all-trimStart t h)))
-
-plain-raise : (b : ℕ) → plain b ≡ true → plain (raise b) ≡ true
-plain-raise b h = go (leb 97 b && leb b 122) refl
-  where
-    go : (a : Bool) → leb 97 b && leb b 122 ≡ a → plain (cond a (b - 32) b) ≡ true
-    go true e =
-        let p = and-both (leb 97 b) (leb b 122) e in
-        let l = leb-true 97 b (p .0) in
-        let m = leb-true b 122 (p .1) in
-        rw (le-leb 32 (b - 32) (omega arith), le-leb (b - 32) 126 (omega arith))
-    go false e = h
+trim-case : (up : Bool) (t : List ℕ) → trim (inCase up t) ≡ inCase up (trim t)
+trim-case false t = refl
+trim-case true t = trim-raise t
 
 all-case : (up : Bool) (t : List ℕ) → all plain t ≡ true → all plain (inCase up t) ≡ true
 all-case false t h = h
-all-case true [] h = refl
-all-case true (b ∷ bs) h = let p = and-both (plain b) (all plain bs) h in rw (plain-raise b (p .0)) (all-case true bs (p .1))
+all-case true t h = all-raise t ∙ h
 
 -- a text that the rules keep: plain, no blank at its end, and raised where it has to be; and no blank at its start
 record Inked (up : Bool) (t : List ℕ) : Type 0 where
@@ -327,15 +263,9 @@ record Kept (up : Bool) (t : List ℕ) : Type 0 where
 fit-kept : (up : Bool) (w : ℕ) → all plain (trim (textOf w)) ≡ true → fit (inCase up (trim (textOf w))) ≡ Stored w → Kept up (textOf w)
 fit-kept up w p e =
     let t = textOf w in
-    let s = inCase up (trim t) in
-    let c = length-case up (trim t) in
-    let l : length s ≤ 8 = omega (arith, trim-short t, length-textOf w) in
-    let f : Stored (pack s) ≡ Stored w = rw (le-leb (length s) 8 l) at e in
-    let q : pack s ≡ w = cc in
-    let r : t ≡ s = ap textOf (sym q) ∙ textOf-pack s l (all-case up (trim t) p) in
-    let m : Trimmed t = length-trimmed t (omega (arith, ap length r)) in
-    let o : trim t ≡ t = trim-begins t (m .starts) (m .ends) in
-    record { inked = record { plains = rw o at p; ends = m .ends; case = rw o at (sym r) }; starts = m .starts }
+    let r : t ≡ inCase up (trim t) = fit-text (inCase up (trim t)) w (all-case up (trim t) p) e in
+    let o : trim t ≡ t = ap trim r ∙ trim-case up (trim t) ∙ ap (inCase up) (trim-twice t) ∙ sym r in
+    record { inked = record { plains = rw o at p; ends = rw o at (ends-trim t); case = rw o at (sym r) }; starts = rw o at (begins-trim t) }
 
 kept-trim : (up : Bool) (t : List ℕ) → Kept up t → trim t ≡ t
 kept-trim up t k = trim-begins t (k .starts) (k .inked .ends)
@@ -389,14 +319,10 @@ case-tail : (up : Bool) (b : ℕ) (bs : List ℕ) → inCase up (b ∷ bs) ≡ b
 case-tail false b bs e = refl
 case-tail true b bs e = cc
 
-no-blank : (b : ℕ) → 33 ≤ b → not (blank b) ≡ true
-no-blank b h = rw (lt-leb b 13 (omega arith), ne-eqb b 32 (omega arith), and-false)
-
 plain-ink : (b : ℕ) → plain b ≡ true → not (blank b) ≡ true → 33 ≤ b
 plain-ink b p q =
-    let l = leb-true 32 b (and-both (leb 32 b) (leb b 126) p .0) in
     let n : b ≡ 32 → ⊥ = λ e. false≢true (rw e at q) in
-    omega arith
+    omega (arith, plain-is b p .low)
 
 ink-inked : (up : Bool) (t : List ℕ) → ink 1 up t ≡ true → Inked up t
 unfolding ink begins
@@ -416,11 +342,11 @@ ink-inked up (b ∷ bs) h =
     }
   where
     plain-from : (a : Bool) → 32 + cond a 1 0 ≤ b → b ≤ 126 → plain b ≡ true
-    plain-from true l m = rw (le-leb 32 b (omega arith), le-leb b 126 m)
-    plain-from false l m = rw (le-leb 32 b l, le-leb b 126 m)
+    plain-from true l m = is-plain b (omega arith) m
+    plain-from false l m = is-plain b l m
 
     end : (a : Bool) → 32 + cond a 1 0 ≤ b → begins (reverse bs) ≡ true → cond a (not (blank b)) (begins (reverse bs)) ≡ true
-    end true l e = no-blank b l
+    end true l e = ap not (not-blank b l)
     end false l e = e
 
 inked-ink : (up : Bool) (t : List ℕ) → Inked up t → ink 1 up t ≡ true
@@ -428,13 +354,12 @@ unfolding ink begins
 inked-ink up [] k = refl
 inked-ink up (b ∷ []) k =
     let p = and-both (plain b) true (k .plains) in
-    let h = leb-true b 126 (and-both (leb 32 b) (leb b 126) (p .0) .1) in
-    rw (byte-good up 33 b (record { low = plain-ink b (p .0) (sym (ends-cons b []) ∙ k .ends); high = h; case = case-head up b [] (k .case) }))
+    rw (byte-good up 33 b (record { low = plain-ink b (p .0) (sym (ends-cons b []) ∙ k .ends); high = plain-is b (p .0) .high; case = case-head up b [] (k .case) }))
 inked-ink up (b ∷ c ∷ cs) k =
     let p = and-both (plain b) (all plain (c ∷ cs)) (k .plains) in
-    let q = and-both (leb 32 b) (leb b 126) (p .0) in
+    let q = plain-is b (p .0) in
     let i = inked-ink up (c ∷ cs) (record { plains = p .1; ends = sym (ends-cons b (c ∷ cs)) ∙ k .ends; case = case-tail up b (c ∷ cs) (k .case) }) in
-    rw (byte-good up 32 b (record { low = leb-true 32 b (q .0); high = leb-true b 126 (q .1); case = case-head up b (c ∷ cs) (k .case) })) i
+    rw (byte-good up 32 b (record { low = q .low; high = q .high; case = case-head up b (c ∷ cs) (k .case) })) i
 
 -- a text whose first byte is 33 or more isn't empty and starts with no blank
 record Opened (t : List ℕ) : Type 0 where
@@ -443,7 +368,7 @@ record Opened (t : List ℕ) : Type 0 where
 
 byte-opened : (b : ℕ) (t : List ℕ) → 33 ≤ b → Opened (beforeZeros b t)
 unfolding begins
-byte-opened b t h = rw (ne-eqb b 0 (omega arith)) (record { some = refl; starts = no-blank b h })
+byte-opened b t h = rw (ne-eqb b 0 (omega arith)) (record { some = refl; starts = ap not (not-blank b h) })
 
 opened-byte : (b : ℕ) (t : List ℕ) → Opened (beforeZeros b t) → all plain (beforeZeros b t) ≡ true → 33 ≤ b
 unfolding begins
@@ -487,15 +412,6 @@ storedBy-rule : (rule : List ℕ → Prepared) (w : ℕ) → storedBy rule w ≡
 unfolding storedBy
 storedBy-rule rule w h = stores-true (rule (textOf w)) w h
 
-rule-storedBy : (rule : List ℕ → Prepared) (w : ℕ) → rule (textOf w) ≡ Stored w → storedBy rule w ≡ true
-unfolding storedBy
-rule-storedBy rule w e = rw e (eq-eqb w w refl)
-
--- where a choice is stored, its first side was taken
-stored-where : (a : Bool) (p other : Prepared) (w : ℕ) → stores w other ≡ false → cond a p other ≡ Stored w → (a ≡ true) × (p ≡ Stored w)
-stored-where true p other w n e = (refl, e)
-stored-where false p other w n e = absurd (false≢true (sym n ∙ ap (stores w) e ∙ eq-eqb w w refl))
-
 not-false : (a : Bool) → not a ≡ true → a ≡ false
 not-false true h = absurd (false≢true h)
 not-false false h = refl
@@ -504,7 +420,7 @@ chain-passes : (w : ℕ) → chainId (textOf w) ≡ Stored w → Passes false w
 unfolding chainId
 chain-passes w e =
     let t = textOf w in
-    let p = stored-where (all plain (trim t) && not (isEmpty (trim t))) (fit (trim t)) Bad w refl e in
+    let p = stored-where (all plain (trim t) && not (isEmpty (trim t))) (fit (trim t)) Bad w bad-stores-none e in
     let q = and-both (all plain (trim t)) (not (isEmpty (trim t))) (p .0) in
     let k = fit-kept false w (q .0) (p .1) in
     record { some = rw (kept-trim false t k) at (not-false (isEmpty (trim t)) (q .1)); kept = k }
@@ -515,11 +431,11 @@ passes-chain w k = rw (kept-trim false (textOf w) (k .kept), k .kept .inked .pla
 
 pub chain-stored : (w : ℕ) (m k : Bool) → k ≡ tidy 1 false 8 w → m ≡ (leb 0x2100_0000_0000_0000 w && k) → m ≡ storedBy chainId w
 chain-stored w m k e f = f ∙ rw e (both-ways (test false w) (storedBy chainId w)
-    (λ h. rule-storedBy chainId w (passes-chain w (test-passes false w h)))
+    (λ h. stored-again chainId w (passes-chain w (test-passes false w h)))
     (λ h. passes-test false w (chain-passes w (storedBy-rule chainId w h))))
 
 -- for the three rules that share `raised`
-module _ (other : Prepared) (w : ℕ) (n : stores w other ≡ false) where
+module _ (other : Prepared) (w : ℕ) (n : (v : ℕ) → other ≡ Stored v → ⊥) where
   raised-passes : raised (textOf w) other ≡ Stored w → Passes true w
   unfolding raised
   raised-passes e =
@@ -535,11 +451,11 @@ module _ (other : Prepared) (w : ℕ) (n : stores w other ≡ false) where
 
   raised-stored : test true w ≡ storedBy (λ t. raised t other) w
   raised-stored = both-ways (test true w) (storedBy (λ t. raised t other) w)
-      (λ h. rule-storedBy (λ t. raised t other) w (passes-raised (test-passes true w h)))
+      (λ h. stored-again (λ t. raised t other) w (passes-raised (test-passes true w h)))
       (λ h. passes-test true w (raised-passes (storedBy-rule (λ t. raised t other) w h)))
 
 pub name-stored : (w : ℕ) (m k : Bool) → k ≡ tidy 1 true 8 w → m ≡ (leb 0x2100_0000_0000_0000 w && k) → m ≡ storedBy conformerName w
-name-stored w m k e f = f ∙ rw e (raised-stored Bad w refl)
+name-stored w m k e f = f ∙ rw e (raised-stored Bad w bad-stores-none)
 
 pub code-absent : (w : ℕ) → w ≡ 0 → true ≡ absentOr insertionCode w
 code-absent w h = rw (eq-eqb w 0 h)
@@ -548,7 +464,7 @@ pub code-stored : (w : ℕ) (r : Bool) → (w ≡ 0 → ⊥) → r ≡ storedBy 
 code-stored w r h e = rw (ne-eqb w 0 h) e
 
 pub location-stored : (w : ℕ) (r : Bool) → r ≡ absentOr insertionCode w → r ≡ absentOr alternativeLocation w
-location-stored w r e = e ∙ ap (λ (x : Bool). eqb w 0 || x) (sym (raised-stored Bad w refl) ∙ raised-stored Absent w refl)
+location-stored w r e = e ∙ ap (λ (x : Bool). eqb w 0 || x) (sym (raised-stored Bad w bad-stores-none) ∙ raised-stored Absent w absent-stores-none)
 
 -- an atom's name may be empty
 passes-atom : (w : ℕ) → Passes true w → atomName (textOf w) ≡ Stored w
@@ -571,7 +487,7 @@ atom-passes : (w : ℕ) → (w ≡ 0 → ⊥) → atomName (textOf w) ≡ Stored
 unfolding atomName
 atom-passes w n e =
     let t = textOf w in
-    let p = stored-where (all plain (trim t)) (fit (map raise (trim t))) Bad w refl e in
+    let p = stored-where (all plain (trim t)) (fit (map raise (trim t))) Bad w bad-stores-none e in
     record { some = some-text w n; kept = fit-kept true w (p .0) (p .1) }
 
 pub atom-stored : (w : ℕ) (r : Bool) → r ≡ absentOr insertionCode w → r ≡ storedBy atomName w
@@ -580,5 +496,5 @@ atom-stored w r e = e ∙ go (eqb w 0) refl
     go : (a : Bool) → eqb w 0 ≡ a → (a || storedBy insertionCode w) ≡ storedBy atomName w
     go true h = rw (eqb-true w 0 h) (sym atom-zero)
     go false h = both-ways (storedBy insertionCode w) (storedBy atomName w)
-        (λ q. rule-storedBy atomName w (passes-atom w (raised-passes Bad w refl (storedBy-rule insertionCode w q))))
-        (λ q. rule-storedBy insertionCode w (passes-raised Bad w refl (atom-passes w (eqb-false w 0 h) (storedBy-rule atomName w q))))
+        (λ q. stored-again atomName w (passes-atom w (raised-passes Bad w bad-stores-none (storedBy-rule insertionCode w q))))
+        (λ q. stored-again insertionCode w (passes-raised Bad w bad-stores-none (atom-passes w (eqb-false w 0 h) (storedBy-rule atomName w q))))

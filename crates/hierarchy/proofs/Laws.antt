@@ -1,10 +1,9 @@
 -- The words of a record by its number, and what five numbers name. Assumes nothing.
 use Prim.Native.Nat.{ℕ, zero, _+_, _*_, _/_, _≤_, _<_}
-use mathlib.Core.Path.{_≡_, sym, _∙_}
+use mathlib.Core.Path.{_≡_, sym}
 use mathlib.Core.Bool.{Bool, true, false, _&&_}
 use mathlib.Core.List.{List}
 use lib.ListN.{length, getD, take, drop, replicate}
-use lib.Seq.{getD-take, getD-drop}
 use lib.Dec.{eqb}
 use lib.IntN.{ℤ}
 use mir.Syntax.{w64}
@@ -13,6 +12,7 @@ use mir.Facts.{toZ-ofZ}
 use borrow.Author.Tests.{lt-ltb, le-ltb}
 use Rattle.machine.specs.Record.{fieldsOf, readOut}
 use Rattle.machine.specs.declared.AtomRec.{AtomRec}
+use Rattle.seek.specs.Below.{record-word}
 use Rattle.hierarchy.specs.Hit.{recordOf, isKind, numbersAt, areKinds, namedBy, nthOf, modelOf, chainOf, residueOf, conformerOf, atomOf}
 use Rattle.machine.specs.declared.RecordNumbers.{RecordNumbers}
 use Rattle.hierarchy.specs.declared.Named.{Named}
@@ -24,7 +24,7 @@ use Rattle.hierarchy.specs.declared.ConformerRec.{ConformerRec}
 
 module _ (w : List ℕ) (n : ℕ) where
   pub word-there : (i : ℕ) → n < length w / 12 → i < 12 → getD w (n * 12 + i) 0 ≡ getD (recordOf w n) i 0
-  word-there i h b = rw (lt-ltb n (length w / 12) h) (sym (getD-take 12 (drop (n * 12) w) i 0 b ∙ getD-drop (n * 12) w i 0))
+  word-there i h b = rw (lt-ltb n (length w / 12) h) (sym (record-word w n i b))
 
   pub word-none : (i : ℕ) → length w / 12 ≤ n → 0 ≡ getD (recordOf w n) i 0
   word-none i h = rw (le-ltb n (length w / 12) h)

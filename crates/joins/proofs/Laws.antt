@@ -17,7 +17,7 @@ use Rattle.laws.specs.Lists.{sum-append, bind-append, same-true, same-refl}
 use Rattle.laws.specs.Places.{Spot, replace-sum, atom-splits, flat-splits, branchAt-other}
 use Rattle.laws.specs.Places as places
 use Rattle.seek.specs.Seek.{spanAt, spanOn, span, spanOf}
-use Rattle.seek.specs.Laws.{Stands, stands, missing, Stood, span-some, spot-length, span-inj}
+use Rattle.seek.specs.Laws.{at-span, Stands, stands, missing, Stood, span-some, spot-length, span-inj}
 use Rattle.seek.specs.declared.Span as Span
 use Rattle.joins.specs.Join.{joinOn, join, cutTurned}
 use Rattle.joins.proofs.Shift.{Apart, later, earlier, apart}
@@ -49,13 +49,6 @@ pub record Rules {A : Type 0} (flats : A → List Words) (count : A → ℕ) (m 
       → Joined flats count m pa qa pb qb (cutTurned pb qa pb (qb - 1) (flats m)) out
   pub ahead : (pa qa pb qb : ℕ) → spanOf s ≡ Span.the-variants.At pa qa → spanOf t ≡ Span.the-variants.At pb qb → pb < pa
       → Joined flats count m pb qb pa qa (cutTurned pb pb (qb - 1) (qa - 1) (flats m)) out
-
-span-at : (o : Option (ℕ × ℕ)) (a b : ℕ) → spanOf o ≡ Span.the-variants.At a b → o ≡ some (a, b)
-span-at none a b e = let z : _≡_ {A = ℕ} 0 1 = cc in absurd (omega arith)
-span-at (some s) a b e =
-    let x : s .0 ≡ a = cc in
-    let y : s .1 ≡ b = cc in
-    λ i. some (x i, y i)
 
 -- ---- at one level, d levels down, whose branches have children of level j
 
@@ -206,19 +199,19 @@ module _ (d j : ℕ) (a b : List ℕ) (la : length a ≡ suc d) (lb : length b �
         no-first = λ e. refused-first (missing d (suc j) a 0 m e);
         no-second = λ e. refused-second (branchAt d (suc j) a m) refl (missing d (suc j) b 0 m e);
         itself = λ pa qa pb qb e f o.
-            let x = span-at _ pa qa e in
-            let y = span-at _ pb qb f in
+            let x = at-span _ pa qa e in
+            let y = at-span _ pb qb f in
             let s = sa pa qa pb qb x y in
             let t = sb pa qa pb qb x y in
             refused-itself (s .branch) (t .branch) (s .there) (t .there) (same-start pa qa pb qb x y o);
         behind = λ pa qa pb qb e f o.
-            let x = span-at _ pa qa e in
-            let y = span-at _ pb qb f in
+            let x = at-span _ pa qa e in
+            let y = at-span _ pb qb f in
             let n = other-start pa qa pb qb x y (λ z. omega arith) (same a b) refl in
             joined-behind pa qa pb qb x y n o (order pa qa pb qb x y n);
         ahead = λ pa qa pb qb e f o.
-            let x = span-at _ pa qa e in
-            let y = span-at _ pb qb f in
+            let x = at-span _ pa qa e in
+            let y = at-span _ pb qb f in
             let n = other-start pa qa pb qb x y (λ z. omega arith) (same a b) refl in
             joined-ahead pa qa pb qb x y n o (order pa qa pb qb x y n);
       }

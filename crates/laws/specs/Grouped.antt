@@ -1,6 +1,6 @@
 -- Branches, their records and the records' words: what is written one after the other is taken apart again.
 -- Assumes nothing.
-use Prim.Native.Nat.{ℕ, zero, suc, _+_, _-_, _*_, _≤_}
+use Prim.Native.Nat.{ℕ, zero, suc, _+_, _-_, _*_, _≤_, _<_}
 use mathlib.Core.Path.{_≡_, refl, ap}
 use mathlib.Core.Bool.{Bool, true, false}
 use mathlib.Core.List.{List, [], _∷_, _++_, map, append-assoc, append-nil}
@@ -61,9 +61,8 @@ pub twelve-words : (m : Machine) → All (λ r. length r ≡ 12) (records m)
 twelve-words = every-in (λ r. length r ≡ 12) (flat 4) (every (λ r. length r ≡ 12) 4 words-length 4 (omega arith))
 
 -- the records of branches of level k have kind 5 - k or a higher one
-below : (k : ℕ) → k ≤ 4 → (ts : List (Branch k)) → All (λ r. 5 ≤ kind r + k) (bind (flat k) ts)
-below k l =
-    every-in (λ r. 5 ≤ kind r + k) (flat k) (every (λ r. 5 ≤ kind r + k) k (λ j i f. omega (arith, words-kind j (omega arith) f)) k (omega arith))
+pub flats-kinds : (h k : ℕ) → h + k ≤ 4 → (ts : List (Branch k)) → All (λ r. h < kind r) (bind (flat k) ts)
+flats-kinds h k l = every-in (λ r. h < kind r) (flat k) (every (λ r. h < kind r) k (λ j i f. omega (arith, words-kind j (omega arith) f)) k (omega arith))
 
 -- ---- grouped again
 
@@ -83,7 +82,7 @@ module _ (k : ℕ) (l : suc k ≤ 4) where
   cut-flats (t ∷ ts) =
       let e : eqb (kind (words (suc k) (t .0))) (4 - k) ≡ true = eq-eqb (kind (words (suc k) (t .0))) (4 - k) (omega (arith, words-kind (suc k) l (t .0))) in
       let o : All (λ r. heads k r ≡ false) (bind (flat k) (t .1)) =
-      All-map (λ r h. ne-eqb (kind r) (4 - k) (λ i. omega arith)) (bind (flat k) (t .1)) (below k (omega arith) (t .1)) in
+      All-map (λ r h. ne-eqb (kind r) (4 - k) (λ i. omega arith)) (bind (flat k) (t .1)) (flats-kinds (4 - k) k (omega arith) (t .1)) in
       rw (e, cut-over (heads k) (bind (flat k) (t .1)) (bind (flat (suc k)) ts) o, cut-flats ts, append-nil)
 
 map-back : {A B : Type 0} (f : B → A) (g : A → B) → ((x : A) → f (g x) ≡ x) → (xs : List A) → map f (map g xs) ≡ xs

@@ -5,7 +5,7 @@ use mathlib.Core.Bool.{Bool, true, false, _&&_, _||_, cond, and-false}
 use mathlib.Core.List.{List, [], _∷_}
 use native.Mathlib.Nat.{pow-suc, suc-mul, one-le-pow, mul-le-mul-right, le-mul-of-pos-right, div-add-mod', div-eq-of-lt, mod-eq-of-lt, mul-add-div-right, mul-add-mod-self-right, zero-div, zero-mod}
 use native.Mathlib.Omega.{arith}
-use lib.ListN.{length}
+use lib.ListN.{length, getD}
 use lib.Dec.{leb, ltb, eqb, leb·zero}
 use borrow.Author.Tests.{leb-true, ltb-true, ltb-false, eqb-true, eqb-false, le-leb, lt-leb, ne-eqb}
 use Rattle.machine.specs.Lists.{all, isEmpty}
@@ -14,7 +14,7 @@ use Rattle.laws.specs.Lists.{and-both}
 
 -- ---- words to texts and back
 
-packed-none : (t : List ℕ) → packed zero t ≡ 0
+pub packed-none : (t : List ℕ) → packed zero t ≡ 0
 unfolding packed
 packed-none [] = refl
 packed-none (b ∷ bs) = refl
@@ -73,25 +73,32 @@ length-textOf w =
 -- ---- texts to words and back
 
 -- what the test `plain` says
-record Plain (b : ℕ) : Type 0 where
-  low : 32 ≤ b
-  high : b ≤ 126
+pub record Plain (b : ℕ) : Type 0 where
+  pub low : 32 ≤ b
+  pub high : b ≤ 126
 
-plain-is : (b : ℕ) → plain b ≡ true → Plain b
+pub plain-is : (b : ℕ) → plain b ≡ true → Plain b
 plain-is b h =
     let p = and-both (leb 32 b) (leb b 126) h in
     record { low = leb-true 32 b (p .0); high = leb-true b 126 (p .1) }
 
+-- every element is a byte
+abbrev pub Bytes : List ℕ → Type 0
+Bytes t = (i : ℕ) → getD t i 0 < 256
+
+plain-bytes : (t : List ℕ) → all plain t ≡ true → Bytes t
+plain-bytes [] h i = omega arith
+plain-bytes (b ∷ bs) h zero = omega (arith, plain-is b (and-both (plain b) (all plain bs) h .0) .high)
+plain-bytes (b ∷ bs) h (suc i) = plain-bytes bs (and-both (plain b) (all plain bs) h .1) i
+
 -- n bytes are below 256 ^ n
-packed-small : (n : ℕ) (t : List ℕ) → all plain t ≡ true → packed n t < 256 ^ n
+packed-small : (n : ℕ) (t : List ℕ) → Bytes t → packed n t < 256 ^ n
 unfolding packed
 packed-small n [] h = one-le-pow n 256 (omega arith)
 packed-small zero (b ∷ bs) h = omega arith
 packed-small (suc n) (b ∷ bs) h =
-    let p = and-both (plain b) (all plain bs) h in
-    let q = plain-is b (p .0) in
-    let i = packed-small n bs (p .1) in
-    let m : b * 256 ^ n ≤ 255 * 256 ^ n = mul-le-mul-right (256 ^ n) (omega arith) in
+    let i = packed-small n bs (λ j. h (suc j)) in
+    let m : b * 256 ^ n ≤ 255 * 256 ^ n = mul-le-mul-right (256 ^ n) (omega (arith, h 0)) in
     let e : 256 ^ suc n ≡ 256 ^ n * 256 = pow-suc 256 n in
     omega arith
 
@@ -100,25 +107,29 @@ unfolding withoutZeros unpacked
 text-zero zero = refl
 text-zero (suc n) = rw (zero-div, zero-mod, text-zero n)
 
--- of n bytes that are packed and unpacked, the text is left
-text-packed : (n : ℕ) (t : List ℕ) → length t ≤ n → all plain t ≡ true → withoutZeros (unpacked n (packed n t)) ≡ t
+-- any bytes, packed and unpacked, lose the zeros at their end
+pub text-packed : (n : ℕ) (t : List ℕ) → length t ≤ n → Bytes t → withoutZeros (unpacked n (packed n t)) ≡ withoutZeros t
 unfolding withoutZeros unpacked packed
 text-packed n [] l h = text-zero n
 text-packed zero (b ∷ bs) l h = absurd (omega arith)
 text-packed (suc n) (b ∷ bs) l h =
-    let p = and-both (plain b) (all plain bs) h in
-    let q = plain-is b (p .0) in
-    let i = packed-small n bs (p .1) in
-    let r = text-packed n bs (omega arith) (p .1) in
+    let i = packed-small n bs (λ j. h (suc j)) in
+    let r = text-packed n bs (omega arith) (λ j. h (suc j)) in
     let d : (b * 256 ^ n + packed n bs) / 256 ^ n ≡ b = mul-add-div-right (omega arith) b (packed n bs) ∙ rw (div-eq-of-lt i) (omega arith) in
     let m : (b * 256 ^ n + packed n bs) % 256 ^ n ≡ packed n bs = mul-add-mod-self-right b (256 ^ n) (packed n bs) ∙ mod-eq-of-lt i in
-    let z : eqb b 0 ≡ false = ne-eqb b 0 (omega arith) in
-    rw (d, m, r, z)
+    rw (d, m, r)
+
+withoutZeros-plain : (t : List ℕ) → all plain t ≡ true → withoutZeros t ≡ t
+unfolding withoutZeros
+withoutZeros-plain [] h = refl
+withoutZeros-plain (b ∷ bs) h =
+    let p = and-both (plain b) (all plain bs) h in
+    rw (withoutZeros-plain bs (p .1), ne-eqb b 0 (omega (arith, plain-is b (p .0) .low)))
 
 -- a plain text of up to eight bytes is the text of its word
 pub textOf-pack : (t : List ℕ) → length t ≤ 8 → all plain t ≡ true → textOf (pack t) ≡ t
 unfolding textOf
-textOf-pack t l h = text-packed 8 t l h
+textOf-pack t l h = text-packed 8 t l (plain-bytes t h) ∙ withoutZeros-plain t h
 
 -- two texts with one word are one text
 pub pack-injective : (s t : List ℕ) → length s ≤ 8 → length t ≤ 8 → all plain s ≡ true → all plain t ≡ true → pack s ≡ pack t → s ≡ t
@@ -171,7 +182,7 @@ order (suc n) (x ∷ xs) [] l m h k =
 order (suc n) (x ∷ xs) (y ∷ ys) l m h k =
     let p = and-both (plain x) (all plain xs) h .1 in
     let q = and-both (plain y) (all plain ys) k .1 in
-    order-digit x y (256 ^ n) (packed n xs) (packed n ys) (packed-small n xs p) (packed-small n ys q)
+    order-digit x y (256 ^ n) (packed n xs) (packed n ys) (packed-small n xs (plain-bytes xs p)) (packed-small n ys (plain-bytes ys q))
     ∙ rw (order n xs ys (omega arith) (omega arith) p q)
 
 -- words are ordered as their texts are

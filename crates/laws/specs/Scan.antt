@@ -40,7 +40,7 @@ pub record Over (k : ℕ) (s : Site) : Type 0 where
   pub place : window 1 (4 - k) (s .place) ≡ s .place
 
 -- a level that is entered doesn't show above it
-window-enter : (k h : ℕ) → k ≤ 4 → h + k < 5 → (f : Fields k) (e : Place) → window 1 h (enter k f e) ≡ window 1 h e
+pub window-enter : (k h : ℕ) → k ≤ 4 → h + k < 5 → (f : Fields k) (e : Place) → window 1 h (enter k f e) ≡ window 1 h e
 unfolding window enter
 window-enter zero h l b f e = rw (lt-leb 5 h (omega arith))
 window-enter (suc zero) h l b f e = rw (lt-leb 4 h (omega arith))
@@ -103,11 +103,19 @@ scan-words k n f s rs o =
     ap (λ (z : Site). keep (eqb (kind (words k f)) 5) z (scan (suc n) z rs)) (site-words k n f s o)
     ∙ ap (λ (h : ℕ). keep (eqb h 5) (below k n f s) (scan (suc n) (below k n f s) rs)) (words-kind k (omega arith) f)
 
-ends-flats : (k : ℕ) → k ≤ 4 → (ts : List (Branch k)) (rest : List Words) → Ends (5 - k) rest → Ends (5 - k) (bind (flat k) ts ++ rest)
+pub ends-more : (g h : ℕ) → g ≤ h → (rs : List Words) → Ends g rs → Ends h rs
+ends-more g h l [] e = tt
+ends-more g h l (r ∷ rs) e = omega arith
+
+-- branches, and what may follow them, start with a kind of at most their own
+pub ends-flats : (h k : ℕ) → h + k ≡ 5 → k ≤ 4 → (ts : List (Branch k)) (rest : List Words) → Ends h rest → Ends h (bind (flat k) ts ++ rest)
 unfolding flat
-ends-flats k l [] rest e = e
-ends-flats zero l (t ∷ ts) rest e = omega (arith, words-kind zero l t)
-ends-flats (suc k) l (t ∷ ts) rest e = omega (arith, words-kind (suc k) l (t .0))
+ends-flats h k level l [] rest e = e
+ends-flats h zero level l (t ∷ ts) rest e = omega (arith, words-kind zero l t)
+ends-flats h (suc k) level l (t ∷ ts) rest e = omega (arith, words-kind (suc k) l (t .0))
+
+pub ends-branches : (h k : ℕ) → h + k ≡ 5 → k ≤ 4 → (ts : List (Branch k)) → Ends h (bind (flat k) ts)
+ends-branches h k level l ts = rw append-nil at (ends-flats h k level l ts [] tt)
 
 -- what a pass over a branch and a rest finds
 abbrev Passes : (k : ℕ) → Branch k → Type 0
@@ -117,7 +125,7 @@ scan-flats : (k : ℕ) → k ≤ 4 → ((t : Branch k) → Passes k t) → (ts :
     → scan n s (bind (flat k) ts ++ rest) ≡ along (size k) (atomsIn k s) n ts ++ scan (n + length (bind (flat k) ts)) s rest
 scan-flats k l f [] s o n rest e = rw add-zero
 scan-flats k l f (t ∷ ts) s o n rest e =
-    rw (append-assoc (flat k t), f t s o n (bind (flat k) ts ++ rest) (ends-flats k l ts rest e), scan-flats k l f ts s o (n + size k t) rest e, length-append (flat k t), add-assoc n, append-assoc (atomsIn k s n t))
+    rw (append-assoc (flat k t), f t s o n (bind (flat k) ts ++ rest) (ends-flats (5 - k) k (omega arith) l ts rest e), scan-flats k l f ts s o (n + size k t) rest e, length-append (flat k t), add-assoc n, append-assoc (atomsIn k s n t))
 
 -- the bridge: a branch's records, then a rest, are the branch's atoms with their places, then what the rest has
 pub scan-branch : (k : ℕ) → k ≤ 4 → (t : Branch k) → Passes k t
@@ -130,15 +138,11 @@ scan-branch zero l t s o n rest e =
 scan-branch (suc k) l t s o n rest e =
     let d = o .depth in
     let b = below (suc k) n (t .0) s in
-    let ends : Ends (5 - k) rest = weaken rest e in
+    let ends : Ends (5 - k) rest = ends-more (5 - suc k) (5 - k) (omega arith) rest e in
     let i = scan-above (5 - suc k) (suc n + length (bind (flat k) (t .1))) b s rest e (λ g h. above-below (suc k) g l (omega arith) n (t .0) s d) in
     let j : n + suc (length (bind (flat k) (t .1))) ≡ suc n + length (bind (flat k) (t .1)) = omega arith in
     scan-words (suc k) n (t .0) s (bind (flat k) (t .1) ++ rest) o
     ∙ rw (ne-eqb (5 - suc k) 5 (λ z. omega arith), j, ← i) (scan-flats k (omega arith) (λ u. scan-branch k (omega arith) u) (t .1) b (over-below k n (t .0) s o) (suc n) rest ends)
-  where
-    weaken : (rs : List Words) → Ends (5 - suc k) rs → Ends (5 - k) rs
-    weaken [] h = tt
-    weaken (r ∷ rs) h = omega arith
 
 pub scan-machine : (m : Machine) → scan 0 top (records m) ≡ atomsOf m
 unfolding atomsOf scan window

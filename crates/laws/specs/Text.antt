@@ -45,7 +45,7 @@ trimStart-to (b ∷ bs) c h = go (blank b) (trimStart-to bs c h)
     go true i = i
     go false i = refl
 
-trimStart-trim : (t : List ℕ) → trimStart (trim t) ≡ trim t
+pub trimStart-trim : (t : List ℕ) → trimStart (trim t) ≡ trim t
 unfolding trim trimStart
 trimStart-trim [] = refl
 trimStart-trim (b ∷ bs) = go (blank b) refl (trimStart-trim bs)
@@ -72,7 +72,7 @@ all-trimStart (b ∷ bs) h = go (blank b) (all-trimStart bs (and-both (plain b) 
     go true i = i
     go false i = h
 
-all-trim : (t : List ℕ) → all plain t ≡ true → all plain (trim t) ≡ true
+pub all-trim : (t : List ℕ) → all plain t ≡ true → all plain (trim t) ≡ true
 unfolding trim
 all-trim t h = rw (all-reverse plain) (all-trimStart (reverse (trimStart t)) (rw (all-reverse plain) (all-trimStart t h)))
 
@@ -87,19 +87,19 @@ raise-cases P b f g = go (leb 97 b && leb b 122) refl
 raise-twice : (b : ℕ) → raise (raise b) ≡ raise b
 raise-twice b = raise-cases (λ c. raise c ≡ c) b (λ e. rw e) (λ h k. rw (lt-leb 97 (b - 32) (omega arith)))
 
-not-blank : (b : ℕ) → 33 ≤ b → blank b ≡ false
+pub not-blank : (b : ℕ) → 33 ≤ b → blank b ≡ false
 not-blank b h = rw (lt-leb b 13 (omega arith), ne-eqb b 32 (omega arith), and-false)
 
 blank-raise : (b : ℕ) → blank (raise b) ≡ blank b
 blank-raise b = raise-cases (λ c. blank c ≡ blank b) b (λ e. refl) (λ h k. not-blank (b - 32) (omega arith) ∙ sym (not-blank b (omega arith)))
 
-is-plain : (b : ℕ) → 32 ≤ b → b ≤ 126 → plain b ≡ true
+pub is-plain : (b : ℕ) → 32 ≤ b → b ≤ 126 → plain b ≡ true
 is-plain b h k = rw (le-leb 32 b h, le-leb b 126 k)
 
 plain-raise : (b : ℕ) → plain (raise b) ≡ plain b
 plain-raise b = raise-cases (λ c. plain c ≡ plain b) b (λ e. refl) (λ h k. is-plain (b - 32) (omega arith) (omega arith) ∙ sym (is-plain b (omega arith) (omega arith)))
 
-all-raise : (t : List ℕ) → all plain (map raise t) ≡ all plain t
+pub all-raise : (t : List ℕ) → all plain (map raise t) ≡ all plain t
 all-raise [] = refl
 all-raise (b ∷ bs) = rw (plain-raise b, all-raise bs)
 
@@ -120,32 +120,33 @@ reverse-raise : (t : List ℕ) → reverse (map raise t) ≡ map raise (reverse 
 reverse-raise [] = refl
 reverse-raise (b ∷ bs) = rw (reverse-cons (raise b) (map raise bs), reverse-cons b bs, map-append, reverse-raise bs)
 
-trim-raise : (t : List ℕ) → trim (map raise t) ≡ map raise (trim t)
+pub trim-raise : (t : List ℕ) → trim (map raise t) ≡ map raise (trim t)
 unfolding trim
 trim-raise t = rw (trimStart-raise t, reverse-raise (trimStart t), trimStart-raise (reverse (trimStart t)), reverse-raise)
 
 -- ---- what a rule stores is in stored form
 
-bad-stores-none : (v : ℕ) → Bad ≡ Stored v → ⊥
+pub bad-stores-none : (v : ℕ) → Bad ≡ Stored v → ⊥
 bad-stores-none v e = let z : _≡_ {A = ℕ} 0 1 = cc in omega arith
 
-absent-stores-none : (v : ℕ) → Absent ≡ Stored v → ⊥
+pub absent-stores-none : (v : ℕ) → Absent ≡ Stored v → ⊥
 absent-stores-none v e = let z : _≡_ {A = ℕ} 0 1 = cc in omega arith
 
 -- where a choice is stored, its first side was taken
-stored-where : (a : Bool) (p other : Prepared) (w : ℕ) → ((v : ℕ) → other ≡ Stored v → ⊥) → cond a p other ≡ Stored w
+pub stored-where : (a : Bool) (p other : Prepared) (w : ℕ) → ((v : ℕ) → other ≡ Stored v → ⊥) → cond a p other ≡ Stored w
     → (a ≡ true) × (p ≡ Stored w)
 stored-where true p other w n e = (refl, e)
 stored-where false p other w n e = absurd (n w e)
 
-fit-text : (t : List ℕ) (w : ℕ) → all plain t ≡ true → fit t ≡ Stored w → textOf w ≡ t
+-- the word that is stored holds the text
+pub fit-text : (t : List ℕ) (w : ℕ) → all plain t ≡ true → fit t ≡ Stored w → textOf w ≡ t
 fit-text t w h e =
     let p = stored-where (leb (length t) 8) (Stored (pack t)) Bad w bad-stores-none e in
     let s : Stored (pack t) ≡ Stored w = p .1 in
     let q : pack t ≡ w = cc in
     rw (← q) (textOf-pack t (leb-true (length t) 8 (p .0)) h)
 
-stored-again : (rule : List ℕ → Prepared) (w : ℕ) → rule (textOf w) ≡ Stored w → storedBy rule w ≡ true
+pub stored-again : (rule : List ℕ → Prepared) (w : ℕ) → rule (textOf w) ≡ Stored w → storedBy rule w ≡ true
 unfolding storedBy
 stored-again rule w e = rw e (eq-eqb w w refl)
 
@@ -205,20 +206,27 @@ atomName-stored t w e = stored-again atomName w (rw (atomName-text t w e, atomNa
 
 -- ---- texts as given
 
--- a text that can be packed matches its own word alone
-pub matches-word : (t : List ℕ) (w : ℕ) → length t ≤ 8 → all plain t ≡ true → isEmpty t ≡ false → matches t w ≡ eqb (pack t) w
+-- a text that its word keeps matches that word alone
+pub matches-kept : (t : List ℕ) (w : ℕ) → textOf (pack t) ≡ t → not (isEmpty t) ≡ true → matches t w ≡ eqb (pack t) w
 unfolding matches
-matches-word t w l h n = rw n (both-ways (same t (textOf w)) (eqb (pack t) w)
+matches-kept t w k n = rw n (both-ways (same t (textOf w)) (eqb (pack t) w)
     (λ e. eq-eqb (pack t) w (ap pack (same-true t (textOf w) e) ∙ pack-textOf w))
-    (λ e. rw (← eqb-true (pack t) w e, textOf-pack t l h) (same-refl t)))
+    (λ e. rw (← eqb-true (pack t) w e, k) (same-refl t)))
+
+pub matches-word : (t : List ℕ) (w : ℕ) → length t ≤ 8 → all plain t ≡ true → isEmpty t ≡ false → matches t w ≡ eqb (pack t) w
+matches-word t w l h n = matches-kept t w (textOf-pack t l h) (ap not n)
+
+-- a text that isn't a word's doesn't match it
+pub matches-none : (t : List ℕ) (w : ℕ) → (t ≡ textOf w → ⊥) → matches t w ≡ false
+unfolding matches
+matches-none t w n = both-ways (not (isEmpty t) && same t (textOf w)) false
+    (λ e. absurd (n (same-true t (textOf w) (and-both (not (isEmpty t)) (same t (textOf w)) e .1))))
+    (λ e. absurd (false≢true e))
 
 packedText-fits : (t : List ℕ) (w : ℕ) → packedText w ≡ true → t ≡ textOf w → (all plain t && leb (length t) 8) ≡ true
 unfolding packedText
 packedText-fits t w p e = rw (e, p) (le-leb (length (textOf w)) 8 (length-textOf w))
 
--- any other matches no word that holds a packed text
+-- a text that can't be packed matches no word that holds a packed text
 pub matches-unpackable : (t : List ℕ) (w : ℕ) → packedText w ≡ true → (all plain t && leb (length t) 8) ≡ false → matches t w ≡ false
-unfolding matches
-matches-unpackable t w p n = both-ways (not (isEmpty t) && same t (textOf w)) false
-    (λ e. sym n ∙ packedText-fits t w p (same-true t (textOf w) (and-both (not (isEmpty t)) (same t (textOf w)) e .1)))
-    (λ e. absurd (false≢true e))
+matches-unpackable t w p n = matches-none t w (λ e. false≢true (sym n ∙ packedText-fits t w p e))

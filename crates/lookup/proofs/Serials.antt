@@ -5,7 +5,7 @@ use mathlib.Core.Bool.{Bool, true, false, cond}
 use mathlib.Core.List.{List, [], _∷_, _++_}
 use native.Mathlib.Omega.{arith}
 use lib.ListN.{length, getD, drop}
-use lib.Seq.{getD-take, getD-drop, drop-drop, drop-append-le}
+use lib.Seq.{drop-append-le}
 use lib.Dec.{leb, eqb}
 use borrow.Author.Tests.{le-leb, lt-leb, eq-eqb, ne-eqb}
 use Rattle.machine.specs.Lists.{any, lastOf}
@@ -15,11 +15,8 @@ use Rattle.machine.specs.Store.{chunks}
 use Rattle.machine.specs.Lookup.{spans}
 use Rattle.laws.specs.Grouped.{chunks-length}
 use Rattle.seek.specs.Seek.{Within, recordAt, between}
-use Rattle.seek.specs.Below.{between-cons, between-nil, record-kind}
+use Rattle.seek.specs.Below.{chunks-snoc, record-word, record-kind, between-cons, between-nil}
 use Rattle.lookup.specs.Level.{atomSerials, wantedRecords}
-
-pub record-word : (w : List ℕ) (at i : ℕ) → i < 12 → getD (recordAt at w) i 0 ≡ getD w (at * 12 + i) 0
-record-word w at i l = getD-take 12 (drop (at * 12) w) i 0 l ∙ getD-drop (at * 12) w i 0
 
 pub atoms-append : (rs ss : List Words) → atomSerials (rs ++ ss) ≡ atomSerials rs ++ atomSerials ss
 unfolding atomSerials
@@ -46,12 +43,6 @@ unfolding atomSerials
 atoms-nil w at end l = rw (between-nil w end at l)
 
 -- by the record at the back
-chunks-snoc : (n : ℕ) (w : List ℕ) → chunks (suc n) w ≡ chunks n w ++ (recordAt n w ∷ [])
-chunks-snoc zero w = refl
-chunks-snoc (suc n) w =
-    let e : suc n * 12 ≡ 12 + n * 12 = omega arith in
-    rw (chunks-snoc n (drop 12 w), drop-drop (n * 12) 12 w, e)
-
 between-snoc : (w : List ℕ) (from at : ℕ) → from < at → between from at w ≡ between from (at - 1) w ++ (recordAt (at - 1) w ∷ [])
 between-snoc w from at l =
     let e : at ≡ suc (at - 1) = omega arith in

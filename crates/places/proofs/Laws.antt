@@ -8,7 +8,7 @@ use native.Mathlib.Nat.{add-zero}
 use native.Mathlib.Numerals.{add-one}
 use native.Mathlib.Omega.{arith}
 use lib.ListN.{drop, getD, length-drop}
-use lib.Seq.{drop-drop, getD-take, getD-drop}
+use lib.Seq.{drop-drop}
 use borrow.Author.Tests.{eq-eqb, ne-eqb}
 use Rattle.machine.specs.Lists.{orElse, andThen}
 use Rattle.machine.specs.Text.{matchesOptional}
@@ -17,7 +17,8 @@ use Rattle.machine.specs.Store.{chunks}
 use Rattle.machine.specs.Edit.{Which, first, last, pick}
 use Rattle.laws.specs.Grouped.{chunks-length}
 use Rattle.seek.specs.Seek.{Within, recordAt, between, run, toEnd, spanOf}
-use Rattle.seek.specs.Below.{between-cons, between-nil, record-kind}
+use Rattle.seek.specs.Below.{record-word, record-kind, between-cons, between-nil}
+use Rattle.seek.specs.Laws.{at-span}
 use Rattle.seek.specs.declared.Span as Span
 use Rattle.places.specs.Pick.{Key, whichOf, keyOf, marks, pickStart, pickSpan, childOf, spotIn}
 use Rattle.places.specs.Place.{chainKey, Lands}
@@ -26,10 +27,6 @@ use Rattle.places.proofs.Picks.{or-none, pick-pass, pick-within}
 use Rattle.places.proofs.Spans.{Inside, picked-inside}
 
 -- ---- is_marked
-
--- a word of a record
-record-word : (w : List ℕ) (at j : ℕ) → j < 12 → getD (recordAt at w) j 0 ≡ getD w (at * 12 + j) 0
-record-word w at j l = getD-take 12 (drop (at * 12) w) j 0 l ∙ getD-drop (at * 12) w j 0
 
 module _ (w : List ℕ) (at h word flag : ℕ) (text : List ℕ) where
   pub unmarked-kind : (getD w (at * 12) 0 ≡ h → ⊥) → false ≡ marks h (keyOf false word flag text) (recordAt at w)
@@ -154,13 +151,6 @@ module _ (w : List ℕ) (h : ℕ) (key : Key) (from end : ℕ) (r : Child.Child)
         rw (met .there, drop-drop (suc (met .offset)) from (chunks end w), q, met .number, g)
 
 -- ---- spot_of
-
-pub at-span : (o : Option (ℕ × ℕ)) (start stop : ℕ) → spanOf o ≡ Span.the-variants.At start stop → o ≡ some (start, stop)
-at-span none start stop e = let z : _≡_ {A = ℕ} 0 1 = cc in absurd (omega arith)
-at-span (some s) start stop e =
-    let x : s .0 ≡ start = cc in
-    let y : s .1 ≡ stop = cc in
-    λ i. some (x i, y i)
 
 no-span : (o : Option (ℕ × ℕ)) → spanOf o ≡ Span.the-variants.Missing → o ≡ none
 no-span none e = refl

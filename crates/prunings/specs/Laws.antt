@@ -14,7 +14,7 @@ use Rattle.machine.specs.Store.{Branch, flat, atomCount}
 use Rattle.machine.specs.Edit.{keepAtoms, nonEmpty}
 use Rattle.laws.specs.Lists.{All}
 use Rattle.laws.specs.Grouped.{words-kind, fields-words}
-use Rattle.laws.specs.Scan.{Ends}
+use Rattle.laws.specs.Scan.{Ends, ends-more, ends-flats}
 use Rattle.prunings.specs.Prune.{stays, full, kept}
 
 -- ---- lists
@@ -84,17 +84,6 @@ kept-count (suc k) p (t ∷ ts) =
 
 -- ---- what has no atoms
 
--- branches, and what may follow them, start with a kind of at most their own
-ends-full : (k : ℕ) → k ≤ 4 → (ts : List (Branch k)) (rest : List Words) → Ends (5 - k) rest → Ends (5 - k) (bind (flat k) ts ++ rest)
-unfolding flat
-ends-full k l [] rest e = e
-ends-full zero l (t ∷ ts) rest e = omega (arith, words-kind zero l t)
-ends-full (suc k) l (t ∷ ts) rest e = omega (arith, words-kind (suc k) l (t .0))
-
-ends-above : (k : ℕ) (rs : List Words) → Ends (5 - suc k) rs → Ends (5 - k) rs
-ends-above k [] e = tt
-ends-above k (r ∷ rs) e = omega arith
-
 -- a record whose children are ts stays if there are any
 stays-full : (k : ℕ) → k ≤ 3 → (r : Words) (ts : List (Branch k)) (rest : List Words) → kind r ≡ 5 - suc k → Ends (5 - suc k) rest
     → stays r (bind (flat k) ts ++ rest) ≡ not (isEmpty ts)
@@ -117,10 +106,10 @@ full-branches zero l (t ∷ ts) rest e = rw (words-kind zero l t, full-branches 
 full-branches (suc k) l [] rest e = refl
 full-branches (suc k) l (t ∷ ts) rest e =
     let after : List Words = bind (flat (suc k)) (nonEmpty (suc k) ts) ++ full rest in
-    let ends : Ends (5 - suc k) after = ends-full (suc k) l (nonEmpty (suc k) ts) (full rest) e in
+    let ends : Ends (5 - suc k) after = ends-flats (5 - suc k) (suc k) (omega arith) l (nonEmpty (suc k) ts) (full rest) e in
     let i : full (bind (flat (suc k)) ts ++ rest) ≡ after = full-branches (suc k) l ts rest e in
     let b : full (bind (flat k) (t .1) ++ (bind (flat (suc k)) ts ++ rest)) ≡ bind (flat k) (nonEmpty k (t .1)) ++ after =
-    full-branches k (omega arith) (t .1) (bind (flat (suc k)) ts ++ rest) (rw i (ends-above k after ends)) ∙ ap (λ (x : List Words). bind (flat k) (nonEmpty k (t .1)) ++ x) i in
+    full-branches k (omega arith) (t .1) (bind (flat (suc k)) ts ++ rest) (rw i (ends-more (5 - suc k) (5 - k) (omega arith) after ends)) ∙ ap (λ (x : List Words). bind (flat k) (nonEmpty k (t .1)) ++ x) i in
     let s = stays-full k (omega arith) (words (suc k) (t .0)) (nonEmpty k (t .1)) after (words-kind (suc k) l (t .0)) ends in
     ap (λ (x : List Words). full (words (suc k) (t .0) ∷ x)) (append-assoc (bind (flat k) (t .1)) (bind (flat (suc k)) ts) rest)
     ∙ full-cons (words (suc k) (t .0)) (bind (flat k) (t .1) ++ (bind (flat (suc k)) ts ++ rest)) _ _ b s

@@ -18,7 +18,7 @@ use Rattle.moves.specs.Over.{over}
 use Rattle.moves.proofs.Laws.{over-none, over-over, over-length, drop-over}
 use Rattle.moves.proofs.Records.{Twelve, twelve-drop, twelve-over, concat-append, write-laid}
 use Rattle.seek.specs.Seek.{held, Good, Within, recordAt, between}
-use Rattle.seek.specs.Below.{between-nil}
+use Rattle.seek.specs.Below.{chunks-snoc, between-nil}
 use Rattle.seek.specs.Laws.{Stands, spot-length, stands-within, stands-records}
 use Rattle.prunings.specs.Prune.{Laid, instead, Compacted, kept}
 use Rattle.prunings.specs.Laws.{those-append, those-length, All-those, kept-atoms, kept-count}
@@ -61,13 +61,6 @@ module _ (w : List ℕ) (g : Good w) where
 twelve-chunks : (n : ℕ) (w : List ℕ) → n * 12 ≤ length w → Twelve (chunks n w)
 twelve-chunks zero w h = tt
 twelve-chunks (suc n) w h = (length-take-le 12 w (omega arith), twelve-chunks n (drop 12 w) (rw length-drop (omega arith)))
-
-chunks-snoc : (n : ℕ) (w : List ℕ) → chunks (suc n) w ≡ chunks n w ++ (recordAt n w ∷ [])
-chunks-snoc zero w = refl
-chunks-snoc (suc n) w =
-    let e : 12 + n * 12 ≡ suc n * 12 = omega arith in
-    let d : drop (n * 12) (drop 12 w) ≡ drop (suc n * 12) w = drop-drop (n * 12) 12 w ∙ rw e in
-    ap (λ (rs : List Words). take 12 w ∷ rs) (chunks-snoc n (drop 12 w) ∙ rw d)
 
 drop-chunks : (n c : ℕ) (w : List ℕ) → n ≤ c → drop n (chunks c w) ≡ chunks (c - n) (drop (n * 12) w)
 drop-chunks zero c w h = let e : c ≡ c - 0 = omega arith in ap (λ (x : ℕ). chunks x w) e

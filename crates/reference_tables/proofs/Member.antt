@@ -1,7 +1,7 @@
 -- A name in a list, of which some is passed. Assumes nothing.
 use Prim.Native.Nat.{ℕ, zero, suc, _+_, _-_, _≤_, _<_}
 use mathlib.Core.Path.{_≡_, refl, sym, _∙_}
-use mathlib.Core.Bool.{Bool, true, false, _||_}
+use mathlib.Core.Bool.{Bool, true, false, _||_, or-false, or-assoc}
 use mathlib.Core.List.{List, [], _∷_}
 use native.Mathlib.Omega.{arith}
 use native.Mathlib.Numerals.{add-one}
@@ -11,14 +11,6 @@ use lib.Dec.{eqb}
 use borrow.Author.Tests.{eq-eqb, ne-eqb}
 use Rattle.machine.specs.Query.{member}
 
-or-assoc : (a b c : Bool) → (a || b) || c ≡ a || (b || c)
-or-assoc true b c = refl
-or-assoc false b c = refl
-
-or-none : (a : Bool) → a || false ≡ a
-or-none true = refl
-or-none false = refl
-
 -- in the first k names or in those after them
 member-split : (k : ℕ) (s : List ℕ) (x : ℕ) → member s x ≡ (member (take k s) x || member (drop k s) x)
 member-split zero s x = refl
@@ -26,7 +18,7 @@ member-split (suc k) [] x = refl
 member-split (suc k) (y ∷ s) x = rw (member-split k s x) (sym (or-assoc (eqb x y) (member (take k s) x) (member (drop k s) x)))
 
 pub four : (s : List ℕ) (x : ℕ) → length s ≡ 4 → (eqb x (getD s 0 0) || eqb x (getD s 1 0)) || (eqb x (getD s 2 0) || eqb x (getD s 3 0)) ≡ member s x
-four (a ∷ b ∷ c ∷ d ∷ []) x h = simp (or-assoc, or-none)
+four (a ∷ b ∷ c ∷ d ∷ []) x h = simp (or-assoc, or-false)
 four [] x h = absurd (omega arith)
 four (a ∷ []) x h = absurd (omega arith)
 four (a ∷ b ∷ []) x h = absurd (omega arith)

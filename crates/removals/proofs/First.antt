@@ -1,5 +1,5 @@
 -- The first child that an id names: its record among those below its parent, and its branch among the parent's children. Assumes nothing.
-use Prim.Native.Nat.{ℕ, zero, suc, _+_, _≤_, _<_}
+use Prim.Native.Nat.{ℕ, suc, _+_, _≤_, _<_}
 use mathlib.Core.Path.{_≡_, refl, sym, ap, _∙_}
 use mathlib.Core.Bool.{Bool, true, false, cond}
 use mathlib.Core.List.{List, [], _∷_, _++_, append-assoc}
@@ -12,29 +12,14 @@ use Rattle.machine.specs.Record.{Words, Fields, words, kind}
 use Rattle.machine.specs.Store.{Branch, flat}
 use Rattle.machine.specs.Find.{size}
 use Rattle.machine.specs.Edit.{up, root, withChildren}
-use Rattle.laws.specs.Lists.{All, All-bind, bind-append}
-use Rattle.laws.specs.Grouped.{words-kind}
-use Rattle.laws.specs.Scan.{Ends}
+use Rattle.laws.specs.Lists.{All, bind-append}
+use Rattle.laws.specs.Scan.{ends-branches}
 use Rattle.laws.specs.Places.{Around}
 use Rattle.seek.specs.Seek.{run}
-use Rattle.seek.specs.Below.{under, flat-root, flat-kinds, run-over}
+use Rattle.seek.specs.Below.{under, flat-root, under-kinds, run-over}
 use Rattle.seek.specs.Laws.{Stands}
 use Rattle.removals.specs.Named.{before}
 use Rattle.removals.proofs.Cut.{Cut}
-
--- ---- records below a branch's own
-
-each-below : (h k : ℕ) → h + k ≤ 4 → (ts : List (Branch k)) → All (λ t. All (λ r. h < kind r) (flat k t)) ts
-each-below h k l [] = tt
-each-below h k l (t ∷ ts) = (flat-kinds h k l t, each-below h k l ts)
-
-under-kinds : (h j : ℕ) → h + j ≡ 5 → (t : Branch j) → All (λ r. h < kind r) (under j t)
-under-kinds h zero e t = tt
-under-kinds h (suc k) e t = All-bind _ (flat k) (t .1) (each-below h k (omega arith) (t .1))
-
-ends-flats : (h j : ℕ) → h + j ≡ 5 → 1 ≤ h → (ts : List (Branch j)) → Ends h (bind (flat j) ts)
-ends-flats h j e o [] = tt
-ends-flats h j e o (t ∷ ts) = rw (flat-root j t) (omega (arith, words-kind j (omega arith) (root j t)))
 
 -- a child by its index, and by how many records stand before its own
 pub record Child (j : ℕ) (ts : List (Branch j)) (i o : ℕ) : Type 0 where
@@ -61,7 +46,7 @@ module _ (j : ℕ) (ts : List (Branch j)) (i o : ℕ) (c : Child j ts i o) where
       let a = bind (flat j) (c .around .after) in
       let n : length (b ++ (r ∷ [])) ≡ suc o = omega (arith, length-append b (r ∷ []), c .offset) in
       let f : bind (flat j) ts ≡ (b ++ (r ∷ [])) ++ (u ++ a) = child-flats ∙ rw (flat-root j (c .branch)) (sym (append-assoc b (r ∷ []) (u ++ a))) in
-      rw (f, drop-at (b ++ (r ∷ [])) (u ++ a) (suc o) n, run-over h u a (under-kinds h j e (c .branch)) (ends-flats h j e l (c .around .after)))
+      rw (f, drop-at (b ++ (r ∷ [])) (u ++ a) (suc o) n, run-over h u a (under-kinds h j e (c .branch)) (ends-branches h j e (omega arith) (c .around .after)))
       (omega (arith, ap length (flat-root j (c .branch))))
 
 -- its records go with it

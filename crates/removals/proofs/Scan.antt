@@ -5,13 +5,12 @@ use mathlib.Core.Bool.{Bool, true, false}
 use mathlib.Core.List.{List, _∷_}
 use native.Mathlib.Nat.{add-zero}
 use native.Mathlib.Omega.{arith}
-use lib.ListN.{getD, drop}
-use lib.Seq.{getD-take, getD-drop}
+use lib.ListN.{getD}
 use borrow.Author.Tests.{eq-eqb, ne-eqb}
 use Rattle.machine.specs.Text.{matches, matchesOptional}
 use Rattle.machine.specs.Record.{Words, kind}
 use Rattle.seek.specs.Seek.{Within, recordAt, between}
-use Rattle.seek.specs.Below.{between-cons, between-nil, record-kind}
+use Rattle.seek.specs.Below.{record-word, record-kind, between-cons, between-nil}
 use Rattle.removals.specs.Named.{Id, idOf, named, sought, before}
 
 -- ---- is_named
@@ -52,9 +51,6 @@ module _ (kind one two serial : ℕ) (name : List ℕ) (flag : ℕ) (text : List
 pub record Passed (w : List ℕ) (from end h : ℕ) (id : Id) (at : ℕ) : Type 0 where
   pub high : at ≤ end
   pub same : from + before (sought h id) (between from end w) ≡ at + before (sought h id) (between at end w)
-
-record-word : (w : List ℕ) (at i : ℕ) → i < 12 → getD (recordAt at w) i 0 ≡ getD w (at * 12 + i) 0
-record-word w at i l = getD-take 12 (drop (at * 12) w) i 0 l ∙ getD-drop (at * 12) w i 0
 
 before-miss : (p : Words → Bool) (at : ℕ) (r : Words) (rs : List Words) → p r ≡ false → at + before p (r ∷ rs) ≡ at + 1 + before p rs
 unfolding before

@@ -17,9 +17,9 @@ use Rattle.machine.specs.Store.{Branch, Machine, flat, records, chunks}
 use Rattle.machine.specs.Find.{size}
 use Rattle.machine.specs.Lookup.{numbered}
 use Rattle.machine.specs.Edit.{up, root}
-use Rattle.laws.specs.Lists.{All, All-bind}
-use Rattle.laws.specs.Grouped.{words-kind, chunks-length}
-use Rattle.laws.specs.Scan.{Ends}
+use Rattle.laws.specs.Lists.{All}
+use Rattle.laws.specs.Grouped.{words-kind, flats-kinds, chunks-length}
+use Rattle.laws.specs.Scan.{Ends, ends-more, ends-flats}
 use Rattle.seek.specs.Seek.{Within, recordAt, between, run, child, atChild, toEnd, childSpan, spanAt, span}
 
 -- ---- records among the words
@@ -37,9 +37,19 @@ chunks-take zero c w l = refl
 chunks-take (suc e) zero w l = absurd (omega arith)
 chunks-take (suc e) (suc c) w l = ap (λ (rs : List Words). take 12 w ∷ rs) (chunks-take e c (drop 12 w) (omega arith))
 
+-- and one more stands behind them
+pub chunks-snoc : (n : ℕ) (w : List ℕ) → chunks (suc n) w ≡ chunks n w ++ (recordAt n w ∷ [])
+chunks-snoc zero w = refl
+chunks-snoc (suc n) w =
+    let e : suc n * 12 ≡ 12 + n * 12 = omega arith in
+    rw (chunks-snoc n (drop 12 w), drop-drop (n * 12) 12 w, e)
+
+-- a word of a record, and its kind
+pub record-word : (w : List ℕ) (at i : ℕ) → i < 12 → getD (recordAt at w) i 0 ≡ getD w (at * 12 + i) 0
+record-word w at i l = getD-take 12 (drop (at * 12) w) i 0 l ∙ getD-drop (at * 12) w i 0
+
 pub record-kind : (w : List ℕ) (at : ℕ) → kind (recordAt at w) ≡ getD w (at * 12) 0
-record-kind w at =
-    getD-take 12 (drop (at * 12) w) 0 0 (omega arith) ∙ getD-drop (at * 12) w 0 0 ∙ ap (λ (x : ℕ). getD w x 0) (add-zero (at * 12))
+record-kind w at = record-word w at 0 (omega arith) ∙ ap (λ (x : ℕ). getD w x 0) (add-zero (at * 12))
 
 module _ (w : List ℕ) (end at : ℕ) where
   pub between-cons : at < end → between at end w ≡ recordAt at w ∷ between (at + 1) end w
@@ -138,27 +148,12 @@ unfolding flat
 flat-root zero t = refl
 flat-root (suc k) t = refl
 
-each : {A : Type 0} {P : A → Type 0} → ((x : A) → P x) → (xs : List A) → All P xs
-each f [] = tt
-each f (x ∷ xs) = (f x, each f xs)
-
-pub flat-kinds : (h k : ℕ) → h + k ≤ 4 → (t : Branch k) → All (λ r. h < kind r) (flat k t)
-unfolding flat
-flat-kinds h zero l t = (omega (arith, words-kind zero (omega arith) t), tt)
-flat-kinds h (suc k) l t =
-    (omega (arith, words-kind (suc k) (omega arith) (t .0)), All-bind _ (flat k) (t .1) (each (flat-kinds h k (omega arith)) (t .1)))
-
-under-kinds : (g k : ℕ) → g + k ≡ 4 → (t : Branch k) → All (λ r. suc g < kind r) (under k t)
-under-kinds g zero l t = tt
-under-kinds g (suc k) l t = All-bind _ (flat k) (t .1) (each (flat-kinds (suc g) k (omega arith)) (t .1))
+pub under-kinds : (h k : ℕ) → h + k ≡ 5 → (t : Branch k) → All (λ r. h < kind r) (under k t)
+under-kinds h zero l t = tt
+under-kinds h (suc k) l t = flats-kinds h k (omega arith) (t .1)
 
 root-kind : (g k : ℕ) → g + k ≡ 4 → (t : Branch k) → kind (words k (root k t)) ≡ suc g
 root-kind g k l t = omega (arith, words-kind k (omega arith) (root k t))
-
-ends-flats : (g k : ℕ) → g + k ≡ 4 → (ts : List (Branch k)) (rest : List Words) → Ends g rest → Ends (suc g) (bind (flat k) ts ++ rest)
-ends-flats g k l [] [] e = tt
-ends-flats g k l [] (r ∷ rest) e = omega arith
-ends-flats g k l (t ∷ ts) rest e = rw (append-assoc, flat-root k t) (omega (arith, root-kind g k l t))
 
 -- ---- from the records to the machine
 
@@ -175,19 +170,19 @@ module _ {A : Type 0} (g k : ℕ) (level : g + k ≡ 4) (f : ℕ → List Words 
   child-branch i n [] rest e = at-end i n rest e
   child-branch zero n (t ∷ ts) rest e =
       let more = bind (flat k) ts ++ rest in
-      rw (append-assoc (flat k t), flat-root k t) (child-here (suc g) f n _ _ (root-kind g k level t) ∙ agree n t more (ends-flats g k level ts rest e))
+      rw (append-assoc (flat k t), flat-root k t) (child-here (suc g) f n _ _ (root-kind g k level t) ∙ agree n t more (ends-flats (suc g) k (omega arith) (omega arith) ts rest (ends-more g (suc g) (omega arith) rest e)))
   child-branch (suc i) n (t ∷ ts) rest e =
       let more = bind (flat k) ts ++ rest in
       let s : length (flat k t) ≡ suc (length (under k t)) = ap length (flat-root k t) in
       let p : suc n + length (under k t) ≡ n + length (flat k t) = omega arith in
       let first : atChild (suc g) (suc i) f n ((flat k t ++ bind (flat k) ts) ++ rest) ≡ atChild (suc g) i f (suc n + length (under k t)) more =
-      rw (append-assoc (flat k t), flat-root k t) (child-next (suc g) f i n _ _ (root-kind g k level t) ∙ child-over (suc g) f i (suc n) (under k t) more (under-kinds g k level t)) in
+      rw (append-assoc (flat k t), flat-root k t) (child-next (suc g) f i n _ _ (root-kind g k level t) ∙ child-over (suc g) f i (suc n) (under k t) more (under-kinds (suc g) k (omega arith) t)) in
       first ∙ rw p (child-branch i (n + length (flat k t)) ts rest e)
 
 run-under : (g k : ℕ) → g + k ≡ 4 → (m : ℕ) (t : Branch k) (after : List Words) → Ends (suc g) after → suc m + run (suc g) (under k t ++ after) ≡ m + size k t
 run-under g k l m t after e =
     let q = ap length (flat-root k t) in
-    rw (run-over (suc g) (under k t) after (under-kinds g k l t) e) (omega arith)
+    rw (run-over (suc g) (under k t) after (under-kinds (suc g) k (omega arith) t) e) (omega arith)
 
 -- the i-th branch's span
 pub child-span : (g k : ℕ) → g + k ≡ 4 → (i n : ℕ) (ts : List (Branch k)) (rest : List Words) → Ends g rest → childSpan (suc g) i n (bind (flat k) ts ++ rest) ≡ spanAt 0 k (i ∷ []) n ts

@@ -71,6 +71,14 @@ pub spot-length : (d j : ℕ) (pos : List ℕ) (ts : List (Branch (up d j))) (t 
 spot-length d j pos ts t s =
     ap length (s .was) ∙ length-append (s .pre) (flat j t ++ s .post) ∙ ap (λ (z : ℕ). length (s .pre) + z) (length-append (flat j t) (s .post))
 
+-- an answer tells its span
+pub at-span : (o : Option (ℕ × ℕ)) (start stop : ℕ) → spanOf o ≡ Span.the-variants.At start stop → o ≡ some (start, stop)
+at-span none start stop e = let z : _≡_ {A = ℕ} 0 1 = cc in absurd (omega arith)
+at-span (some s) start stop e =
+    let x : s .0 ≡ start = cc in
+    let y : s .1 ≡ stop = cc in
+    λ i. some (x i, y i)
+
 -- the branch at a position: its records among all, and the numbers from start up to stop that they have
 pub record Stands (d j : ℕ) (pos : List ℕ) (n : ℕ) (ts : List (Branch (up d j))) (start stop : ℕ) : Type 0 where
   pub branch : Branch j
@@ -168,14 +176,7 @@ module _ (d j : ℕ) (pos : List ℕ) (n : ℕ) (ts : List (Branch (up d j))) wh
           record { branch = t; there = q; spot = s .spot; first = x; last = y ∙ rw x }
 
   pub found : (start stop : ℕ) → spanOf (spanAt d j pos n ts) ≡ Span.the-variants.At start stop → Stands d j pos n ts start stop
-  found start stop e = go (spanAt d j pos n ts) refl e
-    where
-      go : (o : Option (ℕ × ℕ)) → spanAt d j pos n ts ≡ o → spanOf o ≡ Span.the-variants.At start stop → Stands d j pos n ts start stop
-      go none q p = let z : _≡_ {A = ℕ} 0 1 = cc in absurd (omega arith)
-      go (some s) q p =
-          let x : s .0 ≡ start = cc in
-          let y : s .1 ≡ stop = cc in
-          stands start stop (q ∙ λ i. some (x i, y i))
+  found start stop e = stands start stop (at-span (spanAt d j pos n ts) start stop e)
 
 -- ---- two positions
 

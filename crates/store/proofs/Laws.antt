@@ -1,7 +1,7 @@
 -- Twelve words as a record: what `goodRecord` asks of them at each kind. Assumes nothing.
 use Prim.Native.Nat.{ℕ, zero, suc, _-_, _≤_}
 use mathlib.Core.Path.{_≡_, refl, sym, _∙_}
-use mathlib.Core.Bool.{Bool, true, false, _&&_, false≢true}
+use mathlib.Core.Bool.{Bool, true, false, _&&_, false≢true, and-false, and-true, and-assoc}
 use mathlib.Core.List.{List, [], _∷_}
 use native.Mathlib.Omega.{arith}
 use lib.ListN.{length, getD, take, drop, replicate}
@@ -11,20 +11,6 @@ use Rattle.machine.specs.Lists.{all, same}
 use Rattle.laws.specs.Lists.{and-both}
 use Rattle.machine.specs.Text.{chainId, insertionCode, conformerName, alternativeLocation, atomName, storedBy, absentOr}
 use Rattle.machine.specs.Record.{Words, words, kind, finite, fieldsOf, goodValues, goodFields, goodRecord}
-
--- ---- Bool tests
-
-and-last : (a : Bool) → a && true ≡ a
-and-last true = refl
-and-last false = refl
-
-pub and-false : (a : Bool) → a && false ≡ false
-and-false true = refl
-and-false false = refl
-
-and-assoc : (a b c : Bool) → (a && b) && c ≡ a && (b && c)
-and-assoc true b c = refl
-and-assoc false b c = refl
 
 -- ---- twelve words
 
@@ -46,11 +32,11 @@ zeros = replicate 9 0
 
 pub unnamed-zero : (r : Words) → length r ≡ 12 →
     ((eqb (getD r 3 0) 0 && eqb (getD r 4 0) 0) && (eqb (getD r 5 0) 0 && eqb (getD r 6 0) 0)) && ((eqb (getD r 7 0) 0 && eqb (getD r 8 0) 0) && (eqb (getD r 9 0) 0 && (eqb (getD r 10 0) 0 && eqb (getD r 11 0) 0))) ≡ same (drop 3 r) zeros
-unnamed-zero = twelve _ (λ a b c d e f g h i j k l. simp (and-assoc, and-last))
+unnamed-zero = twelve _ (λ a b c d e f g h i j k l. simp (and-assoc, and-true))
 
 pub finite-words : (r : Words) → length r ≡ 12 →
     finite (getD r 3 0) && (finite (getD r 4 0) && (finite (getD r 5 0) && (finite (getD r 6 0) && finite (getD r 7 0)))) ≡ all finite (take 5 (drop 3 r))
-finite-words = twelve _ (λ a b c d e f g h i j k l. simp and-last)
+finite-words = twelve _ (λ a b c d e f g h i j k l. simp and-true)
 
 -- ---- a record of each kind
 
@@ -60,7 +46,7 @@ eqb-same x = eq-eqb x x refl
 pub atom-record : (r : Words) → length r ≡ 12 →
     (eqb (getD r 0 0) 5 && eqb (getD r 11 0) 0) && (storedBy atomName (getD r 2 0) && ((all finite (take 5 (drop 3 r)) && leb (getD r 8 0) 118) && leb (getD r 10 0) 1)) ≡ goodRecord 0 r
 unfolding goodRecord words fieldsOf goodFields goodValues
-atom-record = twelve _ (λ a b c d e f g h i j k l. simp (eqb-same, and-last, and-assoc))
+atom-record = twelve _ (λ a b c d e f g h i j k l. simp (eqb-same, and-true, and-assoc))
 
 pub conformer-record : (r : Words) → length r ≡ 12 → kind r ≡ 4 →
     same (drop 3 r) zeros && (storedBy conformerName (getD r 1 0) && absentOr alternativeLocation (getD r 2 0)) ≡ goodRecord (5 - kind r) r
@@ -77,7 +63,7 @@ chain-record = twelve _ (λ a b c d e f g h i j k l q. rw q (simp eqb-same))
 
 pub model-record : (r : Words) → length r ≡ 12 → kind r ≡ 1 → eqb (getD r 2 0) 0 && same (drop 3 r) zeros ≡ goodRecord (5 - kind r) r
 unfolding goodRecord words fieldsOf goodFields
-model-record = twelve _ (λ a b c d e f g h i j k l q. rw q (simp (eqb-same, and-last)))
+model-record = twelve _ (λ a b c d e f g h i j k l q. rw q (simp (eqb-same, and-true)))
 
 pub atom-kind : (r : Words) → goodRecord 0 r ≡ true → kind r ≡ 5
 unfolding goodRecord words fieldsOf

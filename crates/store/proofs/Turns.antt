@@ -1,7 +1,7 @@
 -- One turn of each loop, and each answer of a function over a store's words. Assumes nothing.
 use Prim.Native.Nat.{ℕ, zero, suc, _+_, _-_, _*_, _/_, _%_, _≤_, _<_}
 use mathlib.Core.Path.{_≡_, refl, sym, ap, _∙_}
-use mathlib.Core.Bool.{Bool, true, false, _&&_, cond, and-true}
+use mathlib.Core.Bool.{Bool, true, false, _&&_, cond, and-false, and-true}
 use mathlib.Core.List.{List, [], _∷_, _++_, append-nil}
 use native.Mathlib.Omega.{arith}
 use native.Mathlib.Numerals.{add-one}
@@ -29,7 +29,7 @@ use Rattle.store.specs.Store.{checkedBy, counted, trailingAtoms}
 use Rattle.store.specs.Laws.{atoms-grouped}
 use Rattle.store.specs.declared.Checked.{Checked}
 use Rattle.store.specs.declared.Checked.the-variants.{Good, Refused}
-use Rattle.store.proofs.Laws.{and-false, atom-kind, good-low}
+use Rattle.store.proofs.Laws.{atom-kind, good-low}
 
 -- ---- zeros
 
@@ -76,7 +76,7 @@ module _ (s : List ℕ) (to : ℕ) (some : 0 < to) (starts : to % 12 ≡ 0) wher
   unfolding trailingAtoms
   trailing-back =
       let i : to / 12 ≡ suc ((to - 12) / 12) = omega arith in
-      let d : 12 * ((to - 12) / 12) ≡ to - 12 = omega arith in
+      let d : (to - 12) / 12 * 12 ≡ to - 12 = omega arith in
       let t : to - (to - 12) ≡ 12 = omega arith in
       rw (i, d, t)
 

@@ -8,14 +8,14 @@ use native.Mathlib.Omega.{arith}
 use lib.ListN.{length, take, length-append, length-take}
 use lib.Seq.{take-append-le, take-all, take-take}
 use lib.Dec.{ltb, leb, eqb}
-use borrow.Author.Tests.{lt-leb, leb-true, le-leb, le-ltb, lt-ltb, ltb-true, ltb-false}
+use borrow.Author.Tests.{leb-true, le-leb, le-ltb, lt-ltb, ltb-true, ltb-false}
 use Rattle.machine.specs.Lists.{keep, those}
 use Rattle.machine.specs.Record.{Fields, Words, kind, fieldsOf}
 use Rattle.machine.specs.Store.{Machine, records, inOrder}
 use Rattle.machine.specs.Query.{Place, onlyIf, window}
 use Rattle.machine.specs.Find.{Site, enter, below, top, atomsOf}
 use Rattle.laws.specs.Ordered.{HeadParts, head-parts}
-use Rattle.laws.specs.Scan.{above, siteOf, scan, scan-machine}
+use Rattle.laws.specs.Scan.{above, siteOf, scan, window-enter, scan-machine}
 use Rattle.walk.specs.Sieve.{depth, sieve}
 
 -- ---- places
@@ -36,17 +36,7 @@ window-window a b l e =
       atom = only-more (leb 5 a) (leb 5 b) (e .atom) (up 5) i;
     }
 
--- a level that is entered doesn't show above it
-window-enter : (k h : ℕ) → k ≤ 4 → h + k < 5 → (f : Fields k) (e : Place) → window 1 h (enter k f e) ≡ window 1 h e
-unfolding window enter
-window-enter zero h l b f e = rw (lt-leb 5 h (omega arith))
-window-enter (suc zero) h l b f e = rw (lt-leb 4 h (omega arith))
-window-enter (suc (suc zero)) h l b f e = rw (lt-leb 3 h (omega arith))
-window-enter (suc (suc (suc zero))) h l b f e = rw (lt-leb 2 h (omega arith))
-window-enter (suc (suc (suc (suc zero)))) h l b f e = rw (lt-leb 1 h (omega arith))
-window-enter (suc (suc (suc (suc (suc k))))) h l b f e = absurd (omega arith)
-
--- and with it all is known that was entered
+-- with the level that is entered, all is known that was entered
 enter-all : (k : ℕ) → 1 ≤ k → k ≤ 5 → (f : Fields (5 - k)) (e : Place) → window 1 k (enter (5 - k) f (window 1 (k - 1) e)) ≡ enter (5 - k) f (window 1 (k - 1) e)
 unfolding window enter
 enter-all zero l h f e = absurd (omega arith)
