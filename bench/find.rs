@@ -1,6 +1,7 @@
 // Find on the largest store, the port and the crate in one run, for twelve trees; gemmi and mmdb2 for those that their selections can
 // say. The port's times include its layout check and writing the hits, gemmi's and mmdb2's reading the selection. mmdb2 makes an index of its
-// hits; the crate and gemmi only pass them, and `listed` is the crate's time with its hits put into a list that has room.
+// hits; the crate and gemmi only pass them, and `listed` is the crate's time with its hits put into a list that has room. Calls are repeated, as
+// for queries that follow one another on one structure.
 use super::others::LIBRARIES;
 use super::{check, nodes, port, store, structure};
 use pdbtbx::{Element, Search, Term, PDB};
@@ -56,15 +57,19 @@ pub fn times(words: &[u64], pdb: &PDB, search: &Search, runs: usize) -> Times {
     let tree = nodes::nodes(search);
     let mut out = vec![0u64; pdb.total_atom_count() * 5];
     let (mut hits, mut hits_of_crate) = (0, 0);
-    let port = store::least(runs, || hits = port::find(black_box(words), &tree, &mut out).hits as usize);
-    let of_crate = store::least(runs, || hits_of_crate = black_box(pdb).find(search.clone()).map(black_box).count());
-    assert_eq!(hits, hits_of_crate);
-    let mut list = Vec::with_capacity(hits);
-    let listed = store::least(runs, || {
-        list.clear();
-        list.extend(black_box(pdb).find(search.clone()));
-    });
-    assert_eq!(hits, list.len());
+    let mut list = Vec::with_capacity(pdb.total_atom_count());
+    let [port, of_crate, listed] = store::least_each(
+        runs,
+        [
+            &mut || hits = port::find(black_box(words), &tree, &mut out).hits as usize,
+            &mut || hits_of_crate = black_box(pdb).find(search.clone()).map(black_box).count(),
+            &mut || {
+                list.clear();
+                list.extend(black_box(pdb).find(search.clone()));
+            },
+        ],
+    );
+    assert_eq!([hits; 2], [hits_of_crate, list.len()]);
     Times { port, of_crate, listed, hits }
 }
 
@@ -81,7 +86,7 @@ pub fn table() {
     }
     println!("ns per atom{:33} hits    port    walk   crate  listed  port/crate  port/listed   gemmi   mmdb2", "");
     for Tree { name, search, said } in trees() {
-        let runs = if name.contains("or-ed") { 5 } else { 30 };
+        let runs = if name.contains("or-ed") { 3 } else { 20 };
         let Times { port, of_crate, listed, hits } = times(&words, &pdb, &search, runs);
         print!("{:42} {:6} {:7.2} {:7.2} {:7.2} {:7.2}", name, hits, port / n, (port - check) / n, of_crate / n, listed / n);
         print!(" {:11.3} {:12.3}", port / of_crate, port / listed);

@@ -95,6 +95,17 @@ pub fn least(runs: usize, mut f: impl FnMut()) -> f64 {
         .fold(f64::INFINITY, f64::min)
 }
 
+// The same for several things in turn, in three rounds, so that a spell of other load meets all of them.
+pub fn least_each<const N: usize>(runs: usize, mut f: [&mut dyn FnMut(); N]) -> [f64; N] {
+    let mut times = [f64::INFINITY; N];
+    for _ in 0..3 {
+        for (time, f) in times.iter_mut().zip(&mut f) {
+            *time = time.min(least(runs, f));
+        }
+    }
+    times
+}
+
 // The same with something made anew, untimed, before each run.
 pub fn least_on<T>(runs: usize, mut make: impl FnMut() -> T, mut f: impl FnMut(&mut T)) -> f64 {
     (0..runs)
