@@ -2,7 +2,7 @@
 -- Assumes nothing.
 use Prim.Native.Nat.{ℕ, suc, _+_, _≤_, _<_}
 use mathlib.Core.Path.{_≡_, refl, sym, ap, _∙_}
-use mathlib.Core.Bool.{Bool, true, false, _&&_, and-true}
+use mathlib.Core.Bool.{Bool, true, false, and-true}
 use mathlib.Core.List.{List, [], _∷_, _++_, append-assoc, append-nil}
 use mathlib.Core.Option.{Option, none, some, Option·map}
 use native.Mathlib.Nat.{zero-add}
@@ -20,10 +20,9 @@ use Rattle.laws.specs.Scan.{ends-branches}
 use Rattle.laws.specs.Places.{Around, Spot}
 use Rattle.seek.specs.Seek.{between, run}
 use Rattle.seek.specs.Below.{chunks-take, run-over}
-use Rattle.places.specs.Pick.{Key, marks, pickSpan, spotIn}
+use Rattle.places.specs.Pick.{Key, marks, pickSpan, keysOf, spotIn}
 use Rattle.places.specs.Place.{column}
 use Rattle.places.proofs.Picks.{chosen, pick-over, unmarked}
-use Rattle.additions.specs.Add.{keysOf}
 
 -- records of kind h are marked as p says of their fields, and none of a higher kind is
 module _ (h k : ℕ) (level : h + k ≡ 4) (mark : Words → Bool) (other : (r : Words) → h < kind r → mark r ≡ false)
@@ -207,7 +206,7 @@ module _ (h k : ℕ) (level : h + k ≡ 4) (low : 1 ≤ h) (key : Key) (p : Fiel
 -- ---- an atom in a model
 
 -- the three levels below a model
-pub puts-chains : (a : NewAtom) (p : Prepare) → Puts 2 3 (intoChains a p) (keysOf p (a .residue) (a .code) (a .location)) (column p (a .residue) (newAtom a p))
+pub puts-chains : (a : NewAtom) (p : Prepare) → Puts 2 3 (intoChains a p) (keysOf (p .chain) (a .residue) (a .code) (p .conformer) (a .location)) (column p (a .residue) (newAtom a p))
 unfolding words
 puts-chains a p =
     puts-level 2 2 refl (omega arith) _ _ _ _ _ _ (λ d. and-true (eqb (d .id) (p .chain)))

@@ -32,11 +32,11 @@ use Rattle.seek.specs.Below.{between-cons}
 use Rattle.seek.specs.Laws.{records-count, atoms-stored, at-span, Stands, stands, missing, stands-within, stands-records}
 use Rattle.seek.specs.declared.Span as Span
 use Rattle.places.specs.Place.{Known, Lands, column, Grown, Moves}
-use Rattle.places.specs.Pick.{spotIn, foundOf}
+use Rattle.places.specs.Pick.{keysOf, spotIn, foundOf}
 use Rattle.places.specs.declared.Place as Place
 use Rattle.places.specs.declared.Spot as Spot
 use Rattle.places.proofs.Spans.{model-inside, model-span}
-use Rattle.additions.specs.Add.{keysOf, columnWords, preparedOf, resultOf, given, named, atomOf, wordOf, put, intoModel}
+use Rattle.additions.specs.Add.{columnWords, preparedOf, resultOf, given, named, atomOf, wordOf, put, intoModel}
 use Rattle.additions.specs.declared.NewAtom as Values
 use Rattle.additions.specs.declared.Names as Names
 use Rattle.additions.specs.declared.Word as Word
@@ -298,7 +298,7 @@ module _ (w : List ℕ) (g : Good w) (i start stop : ℕ) (e : span (i ∷ []) (
     after = replaceAt 0 4 (i ∷ []) ((there .0, intoChains atom (preparedOf n) (there .1)) ∷ []) (held w)
 
     abbrev place : ℕ × ℕ
-    place = spotIn 2 (keysOf (preparedOf n) residue code location) (start + 1) stop w
+    place = spotIn 2 (keysOf (n .chain) residue code (n .conformer) location) (start + 1) stop w
 
     put-atom : Ins 4 (held w) after 0 (place .0) (drop (place .1) (newColumn n residue v))
     put-atom =

@@ -1,17 +1,16 @@
--- What the contracts of `src/` cite: an addition's arguments, where its records go, and the records put in. Assumes nothing.
+-- What the contracts of `src/` cite: an addition's arguments, and the records put in. Assumes nothing.
 use Prim.Native.Nat.{ℕ, _+_, _-_, _*_}
 use mathlib.Core.List.{List, [], _∷_, _++_}
 use lib.ListN.{length, set, replicate}
 use Rattle.machine.specs.Answer.{Result, ok, refused, _>>=_}
-use Rattle.machine.specs.Text.{Optional, optionalOf}
+use Rattle.machine.specs.Text.{Optional}
 use Rattle.machine.specs.Store.{Machine}
 use Rattle.machine.specs.Record.{Atom}
-use Rattle.machine.specs.Edit.{NewAtom, Prepare, Change, first, last, position, branchAt, replaceAt, intoChains, fits}
+use Rattle.machine.specs.Edit.{NewAtom, Prepare, Change, position, branchAt, replaceAt, intoChains, fits}
 use Rattle.machine.specs.declared.Prepared.{Prepared}
 use Rattle.machine.specs.declared.Prepared.the-variants.{Stored, Absent, Bad}
 use Rattle.machine.specs.declared.Refusal.the-variants.{BadIdentifier}
 use Rattle.moves.specs.Over.{over, gapped}
-use Rattle.places.specs.Pick.{Key}
 use Rattle.additions.specs.declared.NewAtom as Values
 use Rattle.additions.specs.declared.Names as Names
 use Rattle.additions.specs.declared.Word as Word
@@ -72,17 +71,6 @@ preparedOf n = record { chain = n .chain; code = n .code; conformer = n .conform
 abbrev pub resultOf : Readied.Readied → Result Prepare
 resultOf (Readied.the-variants.Ready n) = ok (preparedOf n)
 resultOf Readied.the-variants.Bad = refused BadIdentifier
-
--- ---- where the new records go
-
--- "the FIRST chain with the trimmed id, the LAST residue whose serial and code equal the arguments, the FIRST conformer with the
--- raised name and equal alternative location", the code and the location as given; a chain's word 2 is 0, so it matches an absent text
-abbrev pub keysOf : Prepare → ℕ → Optional → Optional → List Key
-keysOf names residue code location =
-    record { which = first; word = names .chain; text = optionalOf 0 (code .text) }
-    ∷ record { which = last; word = residue; text = code }
-    ∷ record { which = first; word = names .conformer; text = location }
-    ∷ []
 
 -- ---- the new records
 

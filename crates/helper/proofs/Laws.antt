@@ -200,25 +200,25 @@ any-byte [] = refl
 any-byte (b ∷ bs) = sym (lt-ltb 0 (suc (length bs)) (omega arith))
 
 module _ (t u : List ℕ) (e : u ≡ trim t) where
-  module _ (v b : Bool) (q : b ≡ (v && ltb 0 (length u))) where
-    chain-is : v ≡ all plain u → chainId t ≡ cond b (fit u) Bad
+  module _ (v : Bool) where
+    chain-is : v ≡ all plain u → chainId t ≡ cond (v && ltb 0 (length u)) (fit u) Bad
     unfolding chainId
-    chain-is p = rw (← e, any-byte u, q, p)
+    chain-is p = rw (← e, any-byte u, p)
 
-    pub chain-good : (r : Prepared) → v ≡ all plain u → b ≡ true → r ≡ fit u → r ≡ chainId t
+    pub chain-good : (r : Prepared) → v ≡ all plain u → v && ltb 0 (length u) ≡ true → r ≡ fit u → r ≡ chainId t
     chain-good r p h s = s ∙ sym (chain-is p ∙ rw h)
 
-    pub chain-bad : v ≡ all plain u → b ≡ false → Bad ≡ chainId t
+    pub chain-bad : v ≡ all plain u → v && ltb 0 (length u) ≡ false → Bad ≡ chainId t
     chain-bad p h = sym (chain-is p ∙ rw h)
 
-    raised-is : (other : Prepared) → v ≡ all plain t → raised t other ≡ cond b (fit (map raise u)) other
+    raised-is : (other : Prepared) → v ≡ all plain t → raised t other ≡ cond (v && ltb 0 (length u)) (fit (map raise u)) other
     unfolding raised
-    raised-is other p = rw (← e, any-byte u, q, p)
+    raised-is other p = rw (← e, any-byte u, p)
 
-    pub raised-good : (other r : Prepared) → v ≡ all plain t → b ≡ true → r ≡ fit (map raise u) → r ≡ raised t other
+    pub raised-good : (other r : Prepared) → v ≡ all plain t → v && ltb 0 (length u) ≡ true → r ≡ fit (map raise u) → r ≡ raised t other
     raised-good other r p h s = s ∙ sym (raised-is other p ∙ rw h)
 
-    pub raised-other : (other : Prepared) → v ≡ all plain t → b ≡ false → other ≡ raised t other
+    pub raised-other : (other : Prepared) → v ≡ all plain t → v && ltb 0 (length u) ≡ false → other ≡ raised t other
     raised-other other p h = sym (raised-is other p ∙ rw h)
 
   pub atom-good : (v : Bool) (r : Prepared) → v ≡ all plain u → v ≡ true → r ≡ fit (map raise u) → r ≡ atomName t

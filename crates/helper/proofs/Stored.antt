@@ -68,9 +68,9 @@ module _ (low : ℕ) (up : Bool) (w : ℕ) where
 
 -- `tidy_byte`: below a, a to z, and above
 module _ (low : ℕ) (up : Bool) (rest unit : ℕ) where
-  pub byte-low : rest < 97 * unit → {r : Bool} → r ≡ (eqb rest 0 || leb (32 * unit + low) rest) → r ≡ tidyByte low up rest unit
+  pub byte-low : rest < 97 * unit → eqb rest 0 || leb (32 * unit + low) rest ≡ tidyByte low up rest unit
   unfolding tidyByte
-  byte-low h e = rw (e, lt-leb (97 * unit) rest h, lt-ltb rest (127 * unit) (omega arith), and-false) (simp and-true)
+  byte-low h = rw (lt-leb (97 * unit) rest h, lt-ltb rest (127 * unit) (omega arith), and-false) (simp and-true)
 
   module _ (l : low ≤ 1) (u : 1 ≤ unit) (h : 97 * unit ≤ rest) where
     pub byte-letter : rest < 123 * unit → not up ≡ tidyByte low up rest unit
@@ -429,8 +429,8 @@ passes-chain : (w : ℕ) → Passes false w → chainId (textOf w) ≡ Stored w
 unfolding chainId
 passes-chain w k = rw (kept-trim false (textOf w) (k .kept), k .kept .inked .plains, k .some) (rw (kept-trim false (textOf w) (k .kept)) at (kept-fit false w (k .kept)))
 
-pub chain-stored : (w : ℕ) (m k : Bool) → k ≡ tidy 1 false 8 w → m ≡ (leb 0x2100_0000_0000_0000 w && k) → m ≡ storedBy chainId w
-chain-stored w m k e f = f ∙ rw e (both-ways (test false w) (storedBy chainId w)
+pub chain-stored : (w : ℕ) (k : Bool) → k ≡ tidy 1 false 8 w → leb 0x2100_0000_0000_0000 w && k ≡ storedBy chainId w
+chain-stored w k e = rw e (both-ways (test false w) (storedBy chainId w)
     (λ h. stored-again chainId w (passes-chain w (test-passes false w h)))
     (λ h. passes-test false w (chain-passes w (storedBy-rule chainId w h))))
 
@@ -454,8 +454,8 @@ module _ (other : Prepared) (w : ℕ) (n : (v : ℕ) → other ≡ Stored v → 
       (λ h. stored-again (λ t. raised t other) w (passes-raised (test-passes true w h)))
       (λ h. passes-test true w (raised-passes (storedBy-rule (λ t. raised t other) w h)))
 
-pub name-stored : (w : ℕ) (m k : Bool) → k ≡ tidy 1 true 8 w → m ≡ (leb 0x2100_0000_0000_0000 w && k) → m ≡ storedBy conformerName w
-name-stored w m k e f = f ∙ rw e (raised-stored Bad w bad-stores-none)
+pub name-stored : (w : ℕ) (k : Bool) → k ≡ tidy 1 true 8 w → leb 0x2100_0000_0000_0000 w && k ≡ storedBy conformerName w
+name-stored w k e = rw e (raised-stored Bad w bad-stores-none)
 
 pub code-absent : (w : ℕ) → w ≡ 0 → true ≡ absentOr insertionCode w
 code-absent w h = rw (eq-eqb w 0 h)

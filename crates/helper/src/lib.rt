@@ -1,7 +1,7 @@
 // Identifiers, after pdbtbx's helper.rs (document 01, "Identifiers"): texts made ready for the store, texts as given compared with
 // stored ones, and tests of stored words.
 ghost use mathlib.Core.Path.{_≡_};
-ghost use mathlib.Core.Bool.{true, false, cond, _&&_, _||_};
+ghost use mathlib.Core.Bool.{cond};
 ghost use Prim.Native.Nat.{_≤_, _<_, _^_};
 ghost use lib.ListN.{length, take, drop, getD};
 ghost use Rattle.machine.specs.Lists.{all};
@@ -10,31 +10,18 @@ ghost use Rattle.helper.specs.Tidy.{trimEnd, inCase, tidyByte, tidy};
 ghost use Rattle.machine.specs.declared.Prepared.the-variants.{Bad};
 use machine::Prepared;
 
-// Without branches: the tests of stored words run for every record.
-fn both(a: bool, b: bool) -> bool
-    ensures { λ r. ⌜ r ≡ (a && b) ⌝ }
-{
-    a & b
-}
-
-fn either(a: bool, b: bool) -> bool
-    ensures { λ r. ⌜ r ≡ (a || b) ⌝ }
-{
-    a | b
-}
-
 // Bytes are 32..126.
 pub fn check_char(b: u8) -> bool
     ensures { λ r. ⌜ r ≡ plain b ⌝ }
 {
-    both(32 <= b, b <= 126)
+    (32 <= b) & (b <= 126)
 }
 
 // Blanks are bytes 9..13 and 32.
 pub fn is_blank(b: u8) -> bool
     ensures { λ r. ⌜ r ≡ blank b ⌝ }
 {
-    either(both(9 <= b, b <= 13), b == 32)
+    ((9 <= b) & (b <= 13)) | (b == 32)
 }
 
 // ---- texts
@@ -153,7 +140,7 @@ pub fn prepare_identifier(text: &[u8]) -> Prepared
     ensures { λ r. ⌜ r ≡ chainId (now (text .entry)) ⌝ }
 {
     let t = trimmed(text);
-    if both(valid_text(t), 0 < t.len()) {
+    if valid_text(t) & (0 < t.len()) {
         fitted(t, false)
     } else {
         Prepared::Bad
@@ -165,7 +152,7 @@ fn prepare_raised(text: &[u8], other: Prepared) -> Prepared
     ensures { λ r. ⌜ r ≡ raised (now (text .entry)) other ⌝ }
 {
     let t = trimmed(text);
-    if both(valid_text(text), 0 < t.len()) {
+    if valid_text(text) & (0 < t.len()) {
         fitted(t, true)
     } else {
         other
@@ -262,7 +249,7 @@ fn tidy_byte(low: u64, up: bool, rest: u64, unit: u64) -> bool
     ensures { λ r. ⌜ r ≡ tidyByte low up rest unit ⌝ }
 {
     if rest < 97 * unit {
-        return either(rest == 0, 32 * unit + low <= rest);
+        return (rest == 0) | (32 * unit + low <= rest);
     }
     if rest < 123 * unit {
         return !up;
@@ -302,13 +289,13 @@ pub fn packed_text(w: u64) -> bool
 pub fn stored_chain_id(w: u64) -> bool
     ensures { λ r. ⌜ r ≡ storedBy chainId w ⌝ }
 {
-    both(0x2100_0000_0000_0000 <= w, tidy_text(1, false, w))
+    (0x2100_0000_0000_0000 <= w) & tidy_text(1, false, w)
 }
 
 pub fn stored_name(w: u64) -> bool
     ensures { λ r. ⌜ r ≡ storedBy conformerName w ⌝ }
 {
-    both(0x2100_0000_0000_0000 <= w, tidy_text(1, true, w))
+    (0x2100_0000_0000_0000 <= w) & tidy_text(1, true, w)
 }
 
 pub fn stored_code(w: u64) -> bool

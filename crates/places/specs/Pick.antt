@@ -44,6 +44,15 @@ abbrev pub childOf : Option ℕ → Child.Child
 childOf none = Child.the-variants.Missing
 childOf (some n) = Child.the-variants.At n
 
+-- "the FIRST chain with the trimmed id, the LAST residue whose serial and code equal the arguments, the FIRST conformer with the
+-- raised name and equal alternative location", the code and the location as given; a chain's word 2 is 0, so it matches an absent text
+abbrev pub keysOf : ℕ → ℕ → Optional → ℕ → Optional → List Key
+keysOf id residue code conformer location =
+    record { which = first; word = id; text = optionalOf 0 (code .text) }
+    ∷ record { which = last; word = residue; text = code }
+    ∷ record { which = first; word = conformer; text = location }
+    ∷ []
+
 -- a record number, and how many of the records above a new atom stand already
 abbrev pub Found : Type 0
 Found = ℕ × ℕ

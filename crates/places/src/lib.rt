@@ -6,8 +6,9 @@ ghost use mathlib.Core.Bool.{true, false};
 ghost use mathlib.Core.List.{[], _∷_};
 ghost use Prim.Native.Nat.{_+_, _*_, _≤_};
 ghost use lib.ListN.{length};
+ghost use Rattle.machine.specs.Text.{optionalOf};
 ghost use Rattle.seek.specs.Seek.{Good, Within, held, recordAt, between, span, spanOf};
-ghost use Rattle.places.specs.Pick.{keyOf, marks, pickStart, pickSpan, childOf, spotIn, foundOf};
+ghost use Rattle.places.specs.Pick.{keyOf, marks, pickStart, pickSpan, childOf, keysOf, spotIn, foundOf};
 ghost use Rattle.places.specs.Place.{rank, Known, Lands, Moves};
 use seek::Record;
 use seek::Span;
@@ -224,7 +225,7 @@ pub fn spot_of(
 ) -> Spot
     requires { ⌜ Within (start + 1) end (now store) ⌝ }
     requires { ⌜ Known place (now store) ⌝ }
-    ensures { λ r. ⌜ foundOf r ≡ spotIn 2 (keyOf false id 0 (now (code .entry)) ∷ keyOf true residue «code_flag» (now (code .entry)) ∷ keyOf false conformer «location_flag» (now (location .entry)) ∷ []) (start + 1) end (now (store .entry)) ⌝ }
+    ensures { λ r. ⌜ foundOf r ≡ spotIn 2 (keysOf id residue (optionalOf «code_flag» (now (code .entry))) conformer (optionalOf «location_flag» (now (location .entry)))) (start + 1) end (now (store .entry)) ⌝ }
     ensures { λ r. ⌜ Lands start end id (now (store .entry)) r ⌝ }
 {
     let mut spot = Spot {

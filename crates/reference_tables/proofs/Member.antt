@@ -17,7 +17,7 @@ member-split zero s x = refl
 member-split (suc k) [] x = refl
 member-split (suc k) (y ∷ s) x = rw (member-split k s x) (sym (or-assoc (eqb x y) (member (take k s) x) (member (drop k s) x)))
 
-pub four : (s : List ℕ) (x : ℕ) → length s ≡ 4 → (eqb x (getD s 0 0) || eqb x (getD s 1 0)) || (eqb x (getD s 2 0) || eqb x (getD s 3 0)) ≡ member s x
+pub four : (s : List ℕ) (x : ℕ) → length s ≡ 4 → eqb x (getD s 0 0) || eqb x (getD s 1 0) || eqb x (getD s 2 0) || eqb x (getD s 3 0) ≡ member s x
 four (a ∷ b ∷ c ∷ d ∷ []) x h = simp (or-assoc, or-false)
 four [] x h = absurd (omega arith)
 four (a ∷ []) x h = absurd (omega arith)

@@ -1,7 +1,6 @@
 // The names of amino acids and of their backbones' atoms (reference_tables.rs), packed: "its bytes from the highest byte
 // down, then zero bytes".
 ghost use mathlib.Core.Path.{_≡_};
-ghost use mathlib.Core.Bool.{_||_};
 ghost use lib.ListN.{length};
 ghost use Rattle.machine.specs.Query.{member, tables};
 
@@ -66,21 +65,12 @@ pub fn backbone_names() -> [u64; 11]
     BACKBONE_NAMES
 }
 
-// Without branches: a name is looked for in four places at once.
-fn either(a: bool, b: bool) -> bool
-    ensures { λ r. ⌜ r ≡ (a || b) ⌝ }
-{
-    a | b
-}
-
+// Without branches between them.
 fn among_four(names: &[u64], name: u64) -> bool
     requires { ⌜ length (now names) ≡ 4 ⌝ }
     ensures { λ r. ⌜ r ≡ member (now (names .entry)) name ⌝ }
 {
-    either(
-        either(name == names[0], name == names[1]),
-        either(name == names[2], name == names[3]),
-    )
+    (name == names[0]) | (name == names[1]) | (name == names[2]) | (name == names[3])
 }
 
 // One after another.

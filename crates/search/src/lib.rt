@@ -85,11 +85,11 @@ fn good_node(code: u64, p: u64, q: u64) -> bool
     match code {
         1 | 5 | 12 | 16 | 18 => q == 0,
         2 | 6 | 13 | 17 | 19 => true,
-        3 | 7 | 9 | 10 | 14 => terms::both(helper::packed_text(p), q == 0),
-        4 | 11 => terms::both(helper::packed_text(p), helper::packed_text(q)),
+        3 | 7 | 9 | 10 | 14 => helper::packed_text(p) & (q == 0),
+        4 | 11 => helper::packed_text(p) & helper::packed_text(q),
         8 => helper::packed_text(q),
-        15 => terms::both(Element::is_element(p), q == 0),
-        20..=28 => terms::both(p == 0, q == 0),
+        15 => Element::is_element(p) & (q == 0),
+        20..=28 => (p == 0) & (q == 0),
         _ => false,
     }
 }

@@ -4,7 +4,7 @@ use mathlib.Core.Path.{_≡_, refl, ap, _∙_}
 use mathlib.Core.Bool.{Bool, true, false, cond}
 use mathlib.Core.List.{List, [], _∷_, _++_, append-assoc, append-nil}
 use mathlib.Core.Option.{Option, none, some, Option·map}
-use native.Mathlib.Nat.{add-zero, add-suc, suc-add}
+use native.Mathlib.Nat.{add-zero, zero-add, add-suc, suc-add}
 use native.Mathlib.Numerals.{add-one}
 use native.Mathlib.Omega.{arith}
 use lib.ListN.{length, take, drop, getD, length-drop, drop-of-length-le}
@@ -37,12 +37,16 @@ chunks-take zero c w l = refl
 chunks-take (suc e) zero w l = absurd (omega arith)
 chunks-take (suc e) (suc c) w l = ap (λ (rs : List Words). take 12 w ∷ rs) (chunks-take e c (drop 12 w) (omega arith))
 
--- and one more stands behind them
+-- and the others stand behind them
+pub chunks-add : (m n : ℕ) (w : List ℕ) → chunks (m + n) w ≡ chunks m w ++ chunks n (drop (m * 12) w)
+chunks-add zero n w = rw (zero-add n)
+chunks-add (suc m) n w =
+    let i : suc m + n ≡ suc (m + n) = omega arith in
+    let d : 12 + m * 12 ≡ suc m * 12 = omega arith in
+    rw (i, chunks-add m n (drop 12 w), drop-drop (m * 12) 12 w, d)
+
 pub chunks-snoc : (n : ℕ) (w : List ℕ) → chunks (suc n) w ≡ chunks n w ++ (recordAt n w ∷ [])
-chunks-snoc zero w = refl
-chunks-snoc (suc n) w =
-    let e : suc n * 12 ≡ 12 + n * 12 = omega arith in
-    rw (chunks-snoc n (drop 12 w), drop-drop (n * 12) 12 w, e)
+chunks-snoc n w = let e : suc n ≡ n + 1 = omega arith in ap (λ (k : ℕ). chunks k w) e ∙ chunks-add n 1 w
 
 -- a word of a record, and its kind
 pub record-word : (w : List ℕ) (at i : ℕ) → i < 12 → getD (recordAt at w) i 0 ≡ getD w (at * 12 + i) 0

@@ -30,13 +30,11 @@ twelve P p =
 abbrev zeros : List ℕ
 zeros = replicate 9 0
 
-pub unnamed-zero : (r : Words) → length r ≡ 12 →
-    ((eqb (getD r 3 0) 0 && eqb (getD r 4 0) 0) && (eqb (getD r 5 0) 0 && eqb (getD r 6 0) 0)) && ((eqb (getD r 7 0) 0 && eqb (getD r 8 0) 0) && (eqb (getD r 9 0) 0 && (eqb (getD r 10 0) 0 && eqb (getD r 11 0) 0))) ≡ same (drop 3 r) zeros
+pub unnamed-zero : (r : Words) → length r ≡ 12 → eqb (getD r 3 0) 0 && eqb (getD r 4 0) 0 && eqb (getD r 5 0) 0 && eqb (getD r 6 0) 0 && eqb (getD r 7 0) 0 && eqb (getD r 8 0) 0 && eqb (getD r 9 0) 0 && eqb (getD r 10 0) 0 && eqb (getD r 11 0) 0 ≡ same (drop 3 r) zeros
 unnamed-zero = twelve _ (λ a b c d e f g h i j k l. simp (and-assoc, and-true))
 
-pub finite-words : (r : Words) → length r ≡ 12 →
-    finite (getD r 3 0) && (finite (getD r 4 0) && (finite (getD r 5 0) && (finite (getD r 6 0) && finite (getD r 7 0)))) ≡ all finite (take 5 (drop 3 r))
-finite-words = twelve _ (λ a b c d e f g h i j k l. simp and-true)
+pub finite-words : (r : Words) → length r ≡ 12 → finite (getD r 3 0) && finite (getD r 4 0) && finite (getD r 5 0) && finite (getD r 6 0) && finite (getD r 7 0) ≡ all finite (take 5 (drop 3 r))
+finite-words = twelve _ (λ a b c d e f g h i j k l. simp (and-assoc, and-true))
 
 -- ---- a record of each kind
 
@@ -44,20 +42,20 @@ eqb-same : (x : ℕ) → eqb x x ≡ true
 eqb-same x = eq-eqb x x refl
 
 pub atom-record : (r : Words) → length r ≡ 12 →
-    (eqb (getD r 0 0) 5 && eqb (getD r 11 0) 0) && (storedBy atomName (getD r 2 0) && ((all finite (take 5 (drop 3 r)) && leb (getD r 8 0) 118) && leb (getD r 10 0) 1)) ≡ goodRecord 0 r
+    eqb (getD r 0 0) 5 && eqb (getD r 11 0) 0 && storedBy atomName (getD r 2 0) && all finite (take 5 (drop 3 r)) && leb (getD r 8 0) 118 && leb (getD r 10 0) 1 ≡ goodRecord 0 r
 unfolding goodRecord words fieldsOf goodFields goodValues
 atom-record = twelve _ (λ a b c d e f g h i j k l. simp (eqb-same, and-true, and-assoc))
 
 pub conformer-record : (r : Words) → length r ≡ 12 → kind r ≡ 4 →
-    same (drop 3 r) zeros && (storedBy conformerName (getD r 1 0) && absentOr alternativeLocation (getD r 2 0)) ≡ goodRecord (5 - kind r) r
+    same (drop 3 r) zeros && storedBy conformerName (getD r 1 0) && absentOr alternativeLocation (getD r 2 0) ≡ goodRecord (5 - kind r) r
 unfolding goodRecord words fieldsOf goodFields
-conformer-record = twelve _ (λ a b c d e f g h i j k l q. rw q (simp eqb-same))
+conformer-record = twelve _ (λ a b c d e f g h i j k l q. rw q (simp (eqb-same, and-assoc)))
 
 pub residue-record : (r : Words) → length r ≡ 12 → kind r ≡ 3 → same (drop 3 r) zeros && absentOr insertionCode (getD r 2 0) ≡ goodRecord (5 - kind r) r
 unfolding goodRecord words fieldsOf goodFields
 residue-record = twelve _ (λ a b c d e f g h i j k l q. rw q (simp eqb-same))
 
-pub chain-record : (r : Words) → length r ≡ 12 → kind r ≡ 2 → (eqb (getD r 2 0) 0 && same (drop 3 r) zeros) && storedBy chainId (getD r 1 0) ≡ goodRecord (5 - kind r) r
+pub chain-record : (r : Words) → length r ≡ 12 → kind r ≡ 2 → eqb (getD r 2 0) 0 && same (drop 3 r) zeros && storedBy chainId (getD r 1 0) ≡ goodRecord (5 - kind r) r
 unfolding goodRecord words fieldsOf goodFields
 chain-record = twelve _ (λ a b c d e f g h i j k l q. rw q (simp eqb-same))
 

@@ -25,6 +25,7 @@ use Rattle.machine.specs.declared.Opened as Opened
 use Rattle.laws.specs.Layout.{parts-store}
 use Rattle.moves.specs.Over.{over}
 use Rattle.seek.specs.Seek.{atomRecords}
+use Rattle.seek.specs.Below.{chunks-add}
 use Rattle.store.specs.Store.{checkedBy, counted, trailingAtoms}
 use Rattle.store.specs.Laws.{atoms-grouped}
 use Rattle.store.specs.declared.Checked.{Checked}
@@ -163,13 +164,6 @@ behind-none s last l e =
       atoms = rw z;
     }
 
-chunks-add : (m n : ℕ) (w : List ℕ) → chunks (m + n) w ≡ chunks m w ++ chunks n (drop (12 * m) w)
-chunks-add zero n w = rw (zero-add n)
-chunks-add (suc m) n w =
-    let i : suc m + n ≡ suc (m + n) = omega arith in
-    let d : 12 + 12 * m ≡ 12 * suc m = omega arith in
-    rw (i, chunks-add m n (drop 12 w), drop-drop (12 * m) 12 w, d)
-
 order-bad : (before rs : List Words) → ((q : ℕ) → inOrder q rs ≡ false) → (q : ℕ) → inOrder q (before ++ rs) ≡ false
 unfolding inOrder
 order-bad [] rs h q = h q
@@ -180,7 +174,7 @@ bad : (s : List ℕ) (last at : ℕ) → at ≤ last → at % 12 ≡ 0 → last 
 unfolding counted
 bad s last at l a b h =
     let i : last / 12 ≡ at / 12 + (last - at) / 12 = omega arith in
-    let d : 12 * (at / 12) ≡ at = omega arith in
+    let d : at / 12 * 12 ≡ at = omega arith in
     rw (i, chunks-add (at / 12) ((last - at) / 12) s, d, order-bad (chunks (at / 12) s) (between s at last) h 0)
 
 module _ {s : List ℕ} {last at next n : ℕ} (p : Behind s last at next n) where

@@ -1,6 +1,6 @@
 // The store (document 01, "Store"): its layout check, opening, and an atom read out.
 ghost use mathlib.Core.Path.{_≡_};
-ghost use mathlib.Core.Bool.{cond, _&&_};
+ghost use mathlib.Core.Bool.{cond};
 ghost use Prim.Native.Nat.{zero, _+_, _-_, _*_, _/_, _%_, _≤_};
 ghost use lib.ListN.{length, take, drop, replicate};
 ghost use lib.Dec.{eqb};
@@ -19,24 +19,20 @@ pub enum Checked {
     Refused(Refusal),
 }
 
-fn both(a: bool, b: bool) -> bool
-    ensures { λ r. ⌜ r ≡ (a && b) ⌝ }
-{
-    a & b
-}
-
 // Words not named are 0: those from 3 on, in a record above the atoms.
 fn unnamed_zero(r: &[u64]) -> bool
     requires { ⌜ length (now r) ≡ 12 ⌝ }
     ensures { λ b. ⌜ b ≡ same (drop 3 (now (r .entry))) (replicate 9 0) ⌝ }
 {
-    both(
-        both(both(r[3] == 0, r[4] == 0), both(r[5] == 0, r[6] == 0)),
-        both(
-            both(r[7] == 0, r[8] == 0),
-            both(r[9] == 0, both(r[10] == 0, r[11] == 0)),
-        ),
-    )
+    (r[3] == 0)
+        & (r[4] == 0)
+        & (r[5] == 0)
+        & (r[6] == 0)
+        & (r[7] == 0)
+        & (r[8] == 0)
+        & (r[9] == 0)
+        & (r[10] == 0)
+        & (r[11] == 0)
 }
 
 // An atom's five floats are finite.
@@ -44,16 +40,11 @@ fn finite_words(r: &[u64]) -> bool
     requires { ⌜ length (now r) ≡ 12 ⌝ }
     ensures { λ b. ⌜ b ≡ all finite (take 5 (drop 3 (now (r .entry)))) ⌝ }
 {
-    both(
-        floats::is_finite(r[3]),
-        both(
-            floats::is_finite(r[4]),
-            both(
-                floats::is_finite(r[5]),
-                both(floats::is_finite(r[6]), floats::is_finite(r[7])),
-            ),
-        ),
-    )
+    floats::is_finite(r[3])
+        & floats::is_finite(r[4])
+        & floats::is_finite(r[5])
+        & floats::is_finite(r[6])
+        & floats::is_finite(r[7])
 }
 
 // An atom's record. Element is 1 to 118 or 0, hetero 0 or 1, and word 11 is not named. The name is tested before the other words
@@ -63,8 +54,7 @@ fn good_atom(r: &[u64]) -> bool
     ensures { λ b. ⌜ b ≡ goodRecord 0 (now (r .entry)) ⌝ }
 {
     let named = helper::stored_atom_name(r[2]);
-    let values = both(both(finite_words(r), r[8] <= 118), r[10] <= 1);
-    both(both(r[0] == 5, r[11] == 0), both(named, values))
+    (r[0] == 5) & (r[11] == 0) & named & finite_words(r) & (r[8] <= 118) & (r[10] <= 1)
 }
 
 // Where the good atoms that stand last before word `to` begin. Nearly all records are passed here.
@@ -99,16 +89,10 @@ fn good_record(r: &[u64]) -> bool
     ensures { λ b. ⌜ b ≡ goodRecord (5 - kind (now (r .entry))) (now (r .entry)) ⌝ }
 {
     match r[0] {
-        4 => both(
-            unnamed_zero(r),
-            both(helper::stored_name(r[1]), helper::stored_location(r[2])),
-        ),
-        3 => both(unnamed_zero(r), helper::stored_code(r[2])),
-        2 => both(
-            both(r[2] == 0, unnamed_zero(r)),
-            helper::stored_chain_id(r[1]),
-        ),
-        1 => both(r[2] == 0, unnamed_zero(r)),
+        4 => unnamed_zero(r) & helper::stored_name(r[1]) & helper::stored_location(r[2]),
+        3 => unnamed_zero(r) & helper::stored_code(r[2]),
+        2 => (r[2] == 0) & unnamed_zero(r) & helper::stored_chain_id(r[1]),
+        1 => (r[2] == 0) & unnamed_zero(r),
         _ => false,
     }
 }

@@ -4,7 +4,7 @@ use machine::RecordNumbers;
 use machine::Term;
 use machine::Tri;
 ghost use mathlib.Core.Path.{_≡_};
-ghost use mathlib.Core.Bool.{not, _&&_, cond};
+ghost use mathlib.Core.Bool.{cond};
 ghost use mathlib.Core.List.{List};
 ghost use mathlib.Core.Option.{some};
 ghost use Prim.Native.Nat.{ℕ, _+_, _*_, _≤_, _<_};
@@ -84,35 +84,23 @@ pub fn apply(o: Ops, a: Tri, b: Tri) -> Tri
 
 // ---- a term's value at its level
 
-pub fn both(a: bool, b: bool) -> bool
-    ensures { λ r. ⌜ r ≡ (a && b) ⌝ }
-{
-    a & b
-}
-
-fn negated(b: bool) -> bool
-    ensures { λ r. ⌜ r ≡ not b ⌝ }
-{
-    !b
-}
-
 // "Ranges include both ends."
 fn between(low: u64, high: u64, n: u64) -> bool
     ensures { λ r. ⌜ r ≡ Query.between low high n ⌝ }
 {
-    both(low <= n, n <= high)
+    (low <= n) & (n <= high)
 }
 
 fn between_signed(low: i64, high: i64, n: i64) -> bool
     ensures { λ r. ⌜ r ≡ Query.betweenZ low high n ⌝ }
 {
-    both(low <= n, n <= high)
+    (low <= n) & (n <= high)
 }
 
 fn between_floats(low: f64, high: f64, n: f64) -> bool
     ensures { λ r. ⌜ r ≡ Query.betweenF low high n ⌝ }
 {
-    both(low <= n, n <= high)
+    (low <= n) & (n <= high)
 }
 
 pub fn optional_matches_model(t: Term, serial: u64) -> Tri
@@ -144,7 +132,7 @@ pub fn optional_matches_residue(t: Term, serial: u64, code: u64) -> Tri
         Term::ResidueSerialNumber(n) => decided(between_signed(n, n, number)),
         Term::ResidueSerialNumberRange(low, high) => decided(between_signed(low, high, number)),
         Term::ResidueInsertionCode(c) => decided(code == c),
-        Term::ResidueId(n, c) => decided(both(between_signed(n, n, number), code == c)),
+        Term::ResidueId(n, c) => decided(between_signed(n, n, number) & (code == c)),
         _ => Tri::Undecided,
     }
 }
@@ -165,7 +153,7 @@ pub fn optional_matches_conformer(t: Term, name: u64, location: u64, residues: &
     match t {
         Term::ConformerName(n) => decided(name == n),
         Term::ConformerAlternativeLocation(l) => decided(location == l),
-        Term::ConformerId(n, l) => decided(both(name == n, location == l)),
+        Term::ConformerId(n, l) => decided((name == n) & (location == l)),
         Term::Backbone => outside(residues, name),
         Term::SideChain => outside(residues, name),
         _ => Tri::Undecided,
@@ -206,7 +194,7 @@ pub fn optional_matches_atom(t: Term, atom: &[u64], atoms: &[u64]) -> Tri
             floats::float_of(atom[6]),
         )),
         Term::Backbone => decided(reference_tables::contains(atoms, atom[2])),
-        Term::SideChain => decided(negated(reference_tables::contains(atoms, atom[2]))),
+        Term::SideChain => decided(!reference_tables::contains(atoms, atom[2])),
         Term::Hetero => decided(atom[10] == 1),
         _ => Tri::Undecided,
     }

@@ -7,14 +7,11 @@ use Rattle.helper.proofs.tidy_byte.Tie as tie
 mul-if1 : tie.Need-mul-if1
 mul-if1 c = search needs
 
-mul-either : tie.Need-mul-either
-mul-either c = search needs
+mul-result : tie.Need-mul-result
+mul-result c = search needs
 
-add-either : tie.Need-add-either
-add-either c = search needs
-
-either-requires : tie.Need-either-requires
-either-requires c κs = search needs
+add-result : tie.Need-add-result
+add-result c = search needs
 
 returns : tie.Need-returns
 returns c = search (needs, byte-low)
@@ -25,8 +22,8 @@ mul-if2 c = search needs
 returns-2 : tie.Need-returns-2
 returns-2 c = search (needs, byte-letter)
 
-mul-result : tie.Need-mul-result
-mul-result c = search needs
+mul-result-2 : tie.Need-mul-result-2
+mul-result-2 c = search needs
 
 returns-3 : tie.Need-returns-3
 returns-3 c = search (needs, byte-high)
@@ -34,13 +31,4 @@ returns-3 c = search (needs, byte-high)
 pub tidy-byte-spec : {M : Type 1} → statement M
 tidy-byte-spec =
     tie.close
-    (tie.spec
-    mul-if1
-    mul-either
-    add-either
-    either-requires
-    returns
-    mul-if2
-    returns-2
-    mul-result
-    returns-3)
+    (tie.spec mul-if1 mul-result add-result returns mul-if2 returns-2 mul-result-2 returns-3)

@@ -18,26 +18,14 @@ packed-text-requires c κs = search needs
 packed-text-requires-2 : tie.Need-packed-text-requires-2
 packed-text-requires-2 c κs = search needs
 
-both-requires : tie.Need-both-requires
-both-requires c κs = search needs
-
 packed-text-requires-3 : tie.Need-packed-text-requires-3
 packed-text-requires-3 c κs = search needs
 
 is-element-requires : tie.Need-is-element-requires
 is-element-requires c κs = search needs
 
-both-requires-2 : tie.Need-both-requires-2
-both-requires-2 c κs = search needs
-
-both-requires-3 : tie.Need-both-requires-3
-both-requires-3 c κs = search needs
-
 packed-text-requires-4 : tie.Need-packed-text-requires-4
 packed-text-requires-4 c κs = search needs
-
-both-requires-4 : tie.Need-both-requires-4
-both-requires-4 c κs = search needs
 
 returns : tie.Need-returns
 unfolding codes
@@ -49,7 +37,7 @@ returns-2 c = keyed (c .before .args .p) (c .before .args .q) (c .before .args .
 
 returns-3 : tie.Need-returns-3
 unfolding codes
-returns-3 c = c .both .ensures ∙ (simp (c .before .packed-text2 .ensures, c .before .before .packed-text .ensures)) ∙ keyed (c .before .before .before .before .args .p) (c .before .before .before .before .args .q) (c .before .before .before .before .args .code) 2 2 (4 ∷ 11 ∷ []) refl (c .before .before .before .match .keys4)
+returns-3 c = (simp (c .packed-text2 .ensures, c .before .packed-text .ensures)) ∙ keyed (c .before .before .before .args .p) (c .before .before .before .args .q) (c .before .before .before .args .code) 2 2 (4 ∷ 11 ∷ []) refl (c .before .before .match .keys4)
 
 returns-4 : tie.Need-returns-4
 unfolding codes
@@ -57,11 +45,11 @@ returns-4 c = c .packed-text3 .ensures ∙ keyed (c .before .before .args .p) (c
 
 returns-5 : tie.Need-returns-5
 unfolding codes
-returns-5 c = c .both2 .ensures ∙ (simp (c .before .is-element .ensures)) ∙ keyed (c .before .before .before .args .p) (c .before .before .before .args .q) (c .before .before .before .args .code) 3 0 (15 ∷ []) refl (c .before .before .match .keys6)
+returns-5 c = (simp (c .is-element .ensures)) ∙ keyed (c .before .before .args .p) (c .before .before .args .q) (c .before .before .args .code) 3 0 (15 ∷ []) refl (c .before .match .keys6)
 
 returns-6 : tie.Need-returns-6
 unfolding codes
-returns-6 c = c .both3 .ensures ∙ ranged (c .before .before .before .before .before .args .p) (c .before .before .before .before .before .args .q) (c .before .before .before .before .before .args .code) 0 0 11 18 refl (c .before .before .before .before .match .rest) (c .before .before .if2 .left) (c .before .if3 .taken)
+returns-6 c = ranged (c .before .before .before .before .args .p) (c .before .before .before .before .args .q) (c .before .before .before .before .args .code) 0 0 11 18 refl (c .before .before .before .match .rest) (c .before .if2 .left) (c .if3 .taken)
 
 returns-7 : tie.Need-returns-7
 returns-7 c = bad-low (c .before .before .args .p) (c .before .before .args .q) (c .before .before .args .code) (c .if1 .taken)
@@ -72,9 +60,9 @@ returns-8 c = bad-high (c .before .before .before .before .args .p) (c .before .
 returns-9 : tie.Need-returns-9
 unfolding codes
 returns-9 c =
-    let a = c .before .before .before .args in
-    let b : (packedText (a .p) && eqb (a .q) 0) ≡ goodNode (a .code) (a .p) (a .q) = elim (c .before .before .match .came) [ inl k ↦ keyed (a .p) (a .q) (a .code) 2 0 (3 ∷ 7 ∷ 14 ∷ []) refl (k .keys3) | inr r ↦ ranged (a .p) (a .q) (a .code) 2 0 1 10 refl (r .0 .rest) (r .1 .left) (r .2 .taken) ] in
-    c .both4 .ensures ∙ (simp (c .before .packed-text4 .ensures)) ∙ b
+    let a = c .before .before .args in
+    let b : (packedText (a .p) && eqb (a .q) 0) ≡ goodNode (a .code) (a .p) (a .q) = elim (c .before .match .came) [ inl k ↦ keyed (a .p) (a .q) (a .code) 2 0 (3 ∷ 7 ∷ 14 ∷ []) refl (k .keys3) | inr r ↦ ranged (a .p) (a .q) (a .code) 2 0 1 10 refl (r .0 .rest) (r .1 .left) (r .2 .taken) ] in
+    (simp (c .packed-text4 .ensures)) ∙ b
 
 pub good-node-spec : {M : Type 1} → statement M
 good-node-spec =
@@ -82,13 +70,9 @@ good-node-spec =
     (tie.spec
     packed-text-requires
     packed-text-requires-2
-    both-requires
     packed-text-requires-3
     is-element-requires
-    both-requires-2
-    both-requires-3
     packed-text-requires-4
-    both-requires-4
     returns
     returns-2
     returns-3

@@ -1,6 +1,6 @@
--- `store::finite_words` meets its contract: its calls, at twelve words written out. Assumes nothing.
-use borrow.Author.Needs.{needs}
+-- `store::finite_words` meets its contract: the five tests are `all` over the five words. Assumes nothing.
 use Rattle.store.proofs.Laws.{finite-words}
+use borrow.Author.Needs.{needs}
 use Rattle.store.proofs.finite_words.Statement.{statement}
 use Rattle.store.proofs.finite_words.Tie as tie
 
@@ -34,21 +34,9 @@ shared-slice-read-is-finite-5 c = search needs
 is-finite-requires-5 : tie.Need-is-finite-requires-5
 is-finite-requires-5 c κs = search needs
 
-both-requires : tie.Need-both-requires
-both-requires c κs = search needs
-
-both-requires-2 : tie.Need-both-requires-2
-both-requires-2 c κs = search needs
-
-both-requires-3 : tie.Need-both-requires-3
-both-requires-3 c κs = search needs
-
-both-requires-4 : tie.Need-both-requires-4
-both-requires-4 c κs = search needs
-
 returns : tie.Need-returns
 returns c =
-    let s = c .before .before .before .before .before .before .before .before .before .before .before .before .before .before .before in
+    let s = c .before .before .before .before .before .before .before .before .before .before .before in
     cc (finite-words (s .args .r .now) (s .pre))
 
 pub finite-words-spec : {M : Type 1} → statement M
@@ -65,8 +53,4 @@ finite-words-spec =
     is-finite-requires-4
     shared-slice-read-is-finite-5
     is-finite-requires-5
-    both-requires
-    both-requires-2
-    both-requires-3
-    both-requires-4
     returns)

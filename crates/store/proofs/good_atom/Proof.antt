@@ -10,39 +10,24 @@ shared-slice-read-stored-atom-name c = search needs
 stored-atom-name-requires : tie.Need-stored-atom-name-requires
 stored-atom-name-requires c κs = search needs
 
+shared-slice-read-result : tie.Need-shared-slice-read-result
+shared-slice-read-result c = search needs
+
+shared-slice-read-result-2 : tie.Need-shared-slice-read-result-2
+shared-slice-read-result-2 c = search needs
+
 finite-words-requires : tie.Need-finite-words-requires
 finite-words-requires c κs = search needs
 
-shared-slice-read-both : tie.Need-shared-slice-read-both
-shared-slice-read-both c = search needs
+shared-slice-read-result-3 : tie.Need-shared-slice-read-result-3
+shared-slice-read-result-3 c = search needs
 
-both-requires : tie.Need-both-requires
-both-requires c κs = search needs
-
-shared-slice-read-both-2 : tie.Need-shared-slice-read-both-2
-shared-slice-read-both-2 c = search needs
-
-both-requires-2 : tie.Need-both-requires-2
-both-requires-2 c κs = search needs
-
-shared-slice-read-both-3 : tie.Need-shared-slice-read-both-3
-shared-slice-read-both-3 c = search needs
-
-shared-slice-read-both-4 : tie.Need-shared-slice-read-both-4
-shared-slice-read-both-4 c = search needs
-
-both-requires-3 : tie.Need-both-requires-3
-both-requires-3 c κs = search needs
-
-both-requires-4 : tie.Need-both-requires-4
-both-requires-4 c κs = search needs
-
-both-requires-5 : tie.Need-both-requires-5
-both-requires-5 c κs = search needs
+shared-slice-read-result-4 : tie.Need-shared-slice-read-result-4
+shared-slice-read-result-4 c = search needs
 
 returns : tie.Need-returns
 returns c =
-    let s = c .before .before .before .before .before .before .before .before .before .before .before .before .before in
+    let s = c .before .before .before .before .before .before .before .before in
     cc (atom-record (s .args .r .now) (s .pre))
 
 pub good-atom-spec : {M : Type 1} → statement M
@@ -51,14 +36,9 @@ good-atom-spec =
     (tie.spec
     shared-slice-read-stored-atom-name
     stored-atom-name-requires
+    shared-slice-read-result
+    shared-slice-read-result-2
     finite-words-requires
-    shared-slice-read-both
-    both-requires
-    shared-slice-read-both-2
-    both-requires-2
-    shared-slice-read-both-3
-    shared-slice-read-both-4
-    both-requires-3
-    both-requires-4
-    both-requires-5
+    shared-slice-read-result-3
+    shared-slice-read-result-4
     returns)

@@ -22,12 +22,6 @@ shared-slice-read-stored-location c = search needs
 stored-location-requires : tie.Need-stored-location-requires
 stored-location-requires c κs = search needs
 
-both-requires : tie.Need-both-requires
-both-requires c κs = search needs
-
-both-requires-2 : tie.Need-both-requires-2
-both-requires-2 c κs = search needs
-
 unnamed-zero-requires-2 : tie.Need-unnamed-zero-requires-2
 unnamed-zero-requires-2 c κs = search needs
 
@@ -37,17 +31,11 @@ shared-slice-read-stored-code c = search needs
 stored-code-requires : tie.Need-stored-code-requires
 stored-code-requires c κs = search needs
 
-both-requires-3 : tie.Need-both-requires-3
-both-requires-3 c κs = search needs
-
-shared-slice-read-both : tie.Need-shared-slice-read-both
-shared-slice-read-both c = search needs
+shared-slice-read-result : tie.Need-shared-slice-read-result
+shared-slice-read-result c = search needs
 
 unnamed-zero-requires-3 : tie.Need-unnamed-zero-requires-3
 unnamed-zero-requires-3 c κs = search needs
-
-both-requires-4 : tie.Need-both-requires-4
-both-requires-4 c κs = search needs
 
 shared-slice-read-stored-chain-id : tie.Need-shared-slice-read-stored-chain-id
 shared-slice-read-stored-chain-id c = search needs
@@ -55,37 +43,31 @@ shared-slice-read-stored-chain-id c = search needs
 stored-chain-id-requires : tie.Need-stored-chain-id-requires
 stored-chain-id-requires c κs = search needs
 
-both-requires-5 : tie.Need-both-requires-5
-both-requires-5 c κs = search needs
-
-shared-slice-read-both-2 : tie.Need-shared-slice-read-both-2
-shared-slice-read-both-2 c = search needs
+shared-slice-read-result-2 : tie.Need-shared-slice-read-result-2
+shared-slice-read-result-2 c = search needs
 
 unnamed-zero-requires-4 : tie.Need-unnamed-zero-requires-4
 unnamed-zero-requires-4 c κs = search needs
 
-both-requires-6 : tie.Need-both-requires-6
-both-requires-6 c κs = search needs
-
 returns : tie.Need-returns
 returns c =
-    let s = c .before .before .before .before .before .before .before .before .before .before in
-    cc (conformer-record (s .args .r .now) (s .pre .0) (c .before .before .before .before .before .before .before .match .keys1))
+    let s = c .before .before .before .before .before .before .before .before in
+    cc (conformer-record (s .args .r .now) (s .pre .0) (c .before .before .before .before .before .match .keys1))
 
 returns-2 : tie.Need-returns-2
 returns-2 c =
-    let s = c .before .before .before .before .before .before .before in
-    cc (residue-record (s .args .r .now) (s .pre .0) (c .before .before .before .before .match .keys2))
+    let s = c .before .before .before .before .before .before in
+    cc (residue-record (s .args .r .now) (s .pre .0) (c .before .before .before .match .keys2))
 
 returns-3 : tie.Need-returns-3
 returns-3 c =
-    let s = c .before .before .before .before .before .before .before .before .before in
-    cc (chain-record (s .args .r .now) (s .pre .0) (c .before .before .before .before .before .before .match .keys3))
+    let s = c .before .before .before .before .before .before .before in
+    cc (chain-record (s .args .r .now) (s .pre .0) (c .before .before .before .before .match .keys3))
 
 returns-4 : tie.Need-returns-4
 returns-4 c =
-    let s = c .before .before .before .before .before .before in
-    cc (model-record (s .args .r .now) (s .pre .0) (c .before .before .before .match .keys4))
+    let s = c .before .before .before .before .before in
+    cc (model-record (s .args .r .now) (s .pre .0) (c .before .before .match .keys4))
 
 returns-5 : tie.Need-returns-5
 returns-5 c =
@@ -103,21 +85,15 @@ good-record-spec =
     stored-name-requires
     shared-slice-read-stored-location
     stored-location-requires
-    both-requires
-    both-requires-2
     unnamed-zero-requires-2
     shared-slice-read-stored-code
     stored-code-requires
-    both-requires-3
-    shared-slice-read-both
+    shared-slice-read-result
     unnamed-zero-requires-3
-    both-requires-4
     shared-slice-read-stored-chain-id
     stored-chain-id-requires
-    both-requires-5
-    shared-slice-read-both-2
+    shared-slice-read-result-2
     unnamed-zero-requires-4
-    both-requires-6
     returns
     returns-2
     returns-3

@@ -129,9 +129,6 @@ shared-slice-read-contains-2 c = search needs
 contains-requires-2 : tie.Need-contains-requires-2
 contains-requires-2 c κs = search needs
 
-negated-requires : tie.Need-negated-requires
-negated-requires c κs = search needs
-
 decided-requires-9 : tie.Need-decided-requires-9
 decided-requires-9 c κs = search needs
 
@@ -182,7 +179,7 @@ returns-9 c others = simp (c .decided8 .ensures, c .before .contains .ensures, c
 
 returns-10 : tie.Need-returns-10
 unfolding fieldsOf readOut termValue
-returns-10 c others = simp (c .decided9 .ensures, c .before .negated .ensures, c .before .before .contains2 .ensures, c .before .before .before .before .enum-told2 .given .1)
+returns-10 c others = simp (c .decided9 .ensures, c .before .contains2 .ensures, c .before .before .before .enum-told2 .given .1)
 
 returns-11 : tie.Need-returns-11
 unfolding fieldsOf readOut termValue
@@ -238,7 +235,6 @@ optional-matches-atom-spec =
     enum-told-2
     shared-slice-read-contains-2
     contains-requires-2
-    negated-requires
     decided-requires-9
     enum-told-3
     shared-slice-read-decided-3

@@ -24,9 +24,6 @@ decided-requires-2 c κs = search needs
 enum-known-t-3 : tie.Need-enum-known-t-3
 enum-known-t-3 c = search needs
 
-both-requires : tie.Need-both-requires
-both-requires c κs = search needs
-
 decided-requires-3 : tie.Need-decided-requires-3
 decided-requires-3 c κs = search needs
 
@@ -52,7 +49,7 @@ returns-2 c others = simp (c .decided2 .ensures, c .before .before .t2 .given .1
 
 returns-3 : tie.Need-returns-3
 unfolding termValue
-returns-3 c others = simp (c .decided3 .ensures, c .before .both .ensures, c .before .before .before .t3 .given .1)
+returns-3 c others = simp (c .decided3 .ensures, c .before .before .t3 .given .1)
 
 returns-4 : tie.Need-returns-4
 unfolding termValue
@@ -77,7 +74,6 @@ optional-matches-conformer-spec =
     enum-known-t-2
     decided-requires-2
     enum-known-t-3
-    both-requires
     decided-requires-3
     enum-told
     outside-requires

@@ -45,9 +45,6 @@ enum-known-t-4 c = search needs
 between-signed-requires-3 : tie.Need-between-signed-requires-3
 between-signed-requires-3 c κs = search needs
 
-both-requires : tie.Need-both-requires
-both-requires c κs = search needs
-
 decided-requires-4 : tie.Need-decided-requires-4
 decided-requires-4 c κs = search needs
 
@@ -70,8 +67,8 @@ returns-3 c names = simp (c .decided3 .ensures, c .before .before .t3 .given .1)
 returns-4 : tie.Need-returns-4
 unfolding termValue
 returns-4 c names =
-    let x = c .before .before .before .before .t4 .given in
-    simp (c .decided4 .ensures, c .before .both .ensures, c .before .before .between-signed3 .ensures, x .1, toZ-ofZ {w = w64} {z = c .before .before .before .before .before .before .int-of .result} (search needs) ∙ c .before .before .before .before .before .before .int-of .ensures, toZ-ofZ {w = w64} {z = x .0 .0} (search needs))
+    let x = c .before .before .before .t4 .given in
+    simp (c .decided4 .ensures, c .before .between-signed3 .ensures, x .1, toZ-ofZ {w = w64} {z = c .before .before .before .before .before .int-of .result} (search needs) ∙ c .before .before .before .before .before .int-of .ensures, toZ-ofZ {w = w64} {z = x .0 .0} (search needs))
 
 returns-5 : tie.Need-returns-5
 unfolding window
@@ -94,7 +91,6 @@ optional-matches-residue-spec =
     decided-requires-3
     enum-known-t-4
     between-signed-requires-3
-    both-requires
     decided-requires-4
     returns
     returns-2
