@@ -71,7 +71,7 @@ module _ (n : ℕ) (m : Machine) (c : Call) (g : goodLength n ≡ true) (f : Fit
   relay (ok x) = rw (layOut-length n m (fit-words n m g f))
   relay (refused e) = refl
 
-  store-step : storeStep (layOut n m) c ≡ (answer m (machineStep n m c), layOut n (next m (machineStep n m c)))
+  pub store-step : storeStep (layOut n m) c ≡ (answer m (machineStep n m c), layOut n (next m (machineStep n m c)))
   unfolding storeStep
   store-step = rw (read-layOut n m g f, layOut-length n m (fit-words n m g f)) (relay (machineStep n m c))
 
@@ -101,7 +101,7 @@ steps n m (c ∷ cs) g f =
 -- ---- the runs: every list is picked from the stored atoms by a test
 
 -- opening accepts what has a good length
-opened-length : (w : List ℕ) → Accepted (openRun w) → goodLength (length w) ≡ true
+pub opened-length : (w : List ℕ) → Accepted (openRun w) → goodLength (length w) ≡ true
 unfolding openRun
 opened-length w a = go (goodLength (length w)) a
   where

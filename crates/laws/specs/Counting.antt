@@ -29,6 +29,14 @@ module _ {A : Type 0} where
       go false true h = omega arith
       go false false h = omega arith
 
+  pub those-append : (p : A → Bool) (xs ys : List A) → those p (xs ++ ys) ≡ those p xs ++ those p ys
+  those-append p [] ys = refl
+  those-append p (x ∷ xs) ys = go (p x) (those-append p xs ys)
+    where
+      go : (b : Bool) → those p (xs ++ ys) ≡ those p xs ++ those p ys → keep b x (those p (xs ++ ys)) ≡ keep b x (those p xs) ++ those p ys
+      go true e = rw e
+      go false e = e
+
   keep-All : (P : A → Type 0) (b : Bool) (x : A) (xs : List A) → P x → All P xs → All P (keep b x xs)
   keep-All P true x xs h g = (h, g)
   keep-All P false x xs h g = g

@@ -9,7 +9,7 @@ use lib.ListN.{length, getD}
 use lib.Dec.{leb, ltb, eqb, leb·zero}
 use borrow.Author.Tests.{leb-true, ltb-true, ltb-false, eqb-true, eqb-false, le-leb, lt-leb, ne-eqb}
 use Rattle.machine.specs.Lists.{all, isEmpty}
-use Rattle.machine.specs.Text.{packed, pack, unpacked, beforeZeros, withoutZeros, textOf, plain}
+use Rattle.machine.specs.Text.{packed, pack, unpacked, beforeZeros, withoutZeros, textOf, before, plain}
 use Rattle.laws.specs.Lists.{and-both}
 
 -- ---- words to texts and back
@@ -137,25 +137,19 @@ pack-injective s t l m p q e = sym (textOf-pack s l p) ∙ ap textOf e ∙ textO
 
 -- ---- order
 
--- the order of `str`: byte by byte, a prefix first
-unfoldable pub before : List ℕ → List ℕ → Bool
-before [] t = true
-before (x ∷ xs) [] = false
-before (x ∷ xs) (y ∷ ys) = ltb x y || (eqb x y && before xs ys)
-
 pub both-ways : (a b : Bool) → (a ≡ true → b ≡ true) → (b ≡ true → a ≡ true) → a ≡ b
 both-ways true b f g = sym (f refl)
 both-ways false true f g = g refl
 both-ways false false f g = refl
 
-digit-below : (x y n p q : ℕ) → p < n → x < y → x * n + p < y * n + q
+pub digit-below : (x y n p q : ℕ) → p < n → x < y → x * n + p < y * n + q
 digit-below x y n p q h k =
     let m : suc x * n ≤ y * n = mul-le-mul-right n k in
     let e = suc-mul x n in
     omega arith
 
 -- numbers are compared by their first digit, then by the rest
-order-digit : (x y n p q : ℕ) → p < n → q < n → leb (x * n + p) (y * n + q) ≡ (ltb x y || (eqb x y && leb p q))
+pub order-digit : (x y n p q : ℕ) → p < n → q < n → leb (x * n + p) (y * n + q) ≡ (ltb x y || (eqb x y && leb p q))
 order-digit x y n p q h k = go (ltb x y) (eqb x y) refl refl
   where
     go : (a b : Bool) → ltb x y ≡ a → eqb x y ≡ b → leb (x * n + p) (y * n + q) ≡ (a || (b && leb p q))

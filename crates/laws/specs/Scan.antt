@@ -71,7 +71,7 @@ above-self k s o =
     λ i. record { numbers = p i; place = q i }
 
 -- entering a level leaves only those below it unknown
-enter-over : (k : ℕ) → k ≤ 3 → (f : Fields (suc k)) (e : Place) → window 1 (4 - suc k) e ≡ e → window 1 (4 - k) (enter (suc k) f e) ≡ enter (suc k) f e
+pub enter-over : (k : ℕ) → k ≤ 3 → (f : Fields (suc k)) (e : Place) → window 1 (4 - suc k) e ≡ e → window 1 (4 - k) (enter (suc k) f e) ≡ enter (suc k) f e
 unfolding window enter
 enter-over zero l f e p = ap (enter 1 f) p
 enter-over (suc zero) l f e p = ap (enter 2 f) p

@@ -103,7 +103,7 @@ pub all-raise : (t : List ℕ) → all plain (map raise t) ≡ all plain t
 all-raise [] = refl
 all-raise (b ∷ bs) = rw (plain-raise b, all-raise bs)
 
-map-raise-twice : (t : List ℕ) → map raise (map raise t) ≡ map raise t
+pub map-raise-twice : (t : List ℕ) → map raise (map raise t) ≡ map raise t
 map-raise-twice [] = refl
 map-raise-twice (b ∷ bs) = rw (raise-twice b, map-raise-twice bs)
 
@@ -164,7 +164,7 @@ chainId-text t w e =
 pub chainId-stored : (t : List ℕ) (w : ℕ) → chainId t ≡ Stored w → storedBy chainId w ≡ true
 chainId-stored t w e = stored-again chainId w (rw (chainId-text t w e, chainId-trim) e)
 
-isEmpty-raise : (t : List ℕ) → isEmpty (map raise t) ≡ isEmpty t
+pub isEmpty-raise : (t : List ℕ) → isEmpty (map raise t) ≡ isEmpty t
 isEmpty-raise [] = refl
 isEmpty-raise (b ∷ bs) = refl
 

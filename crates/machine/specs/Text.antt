@@ -1,9 +1,9 @@
 -- Document 01, "Identifiers". A text is its list of bytes. Assumes nothing.
 use Prim.Native.Nat.{ℕ, zero, suc, _+_, _-_, _*_, _/_, _%_, _^_}
-use mathlib.Core.Bool.{Bool, false, not, _&&_, _||_, cond}
+use mathlib.Core.Bool.{Bool, true, false, not, _&&_, _||_, cond}
 use mathlib.Core.List.{List, [], _∷_, map, reverse}
 use lib.ListN.{length}
-use lib.Dec.{leb, eqb}
+use lib.Dec.{leb, ltb, eqb}
 use Rattle.machine.specs.Lists.{isEmpty, all, same}
 use Rattle.machine.specs.declared.Prepared.{Prepared}
 use Rattle.machine.specs.declared.Prepared.the-variants.{Stored, Absent, Bad}
@@ -35,6 +35,12 @@ withoutZeros (b ∷ bs) = beforeZeros b (withoutZeros bs)
 -- the text that a packed word stands for; 0 stands for the empty one
 unfoldable pub textOf : ℕ → List ℕ
 textOf w = withoutZeros (unpacked 8 w)
+
+-- "`str` order": byte by byte, a prefix first. That "u64 order is `str` order" is a law (`laws`, Packing)
+unfoldable pub before : List ℕ → List ℕ → Bool
+before [] t = true
+before (x ∷ xs) [] = false
+before (x ∷ xs) (y ∷ ys) = ltb x y || (eqb x y && before xs ys)
 
 -- ---- the five rules
 

@@ -12,7 +12,7 @@ use Rattle.machine.specs.Lists.{isEmpty, keep, those, sum, bind}
 use Rattle.machine.specs.Record.{Words, Atom, words, kind}
 use Rattle.machine.specs.Store.{Branch, flat, atomCount}
 use Rattle.machine.specs.Edit.{keepAtoms, nonEmpty}
-use Rattle.laws.specs.Lists.{All}
+use Rattle.laws.specs.Counting.{those-append}
 use Rattle.laws.specs.Grouped.{words-kind, fields-words}
 use Rattle.laws.specs.Scan.{Ends, ends-more, ends-flats}
 use Rattle.prunings.specs.Prune.{stays, full, kept}
@@ -20,14 +20,6 @@ use Rattle.prunings.specs.Prune.{stays, full, kept}
 -- ---- lists
 
 module _ {A : Type 0} (p : A → Bool) where
-  pub those-append : (xs ys : List A) → those p (xs ++ ys) ≡ those p xs ++ those p ys
-  those-append [] ys = refl
-  those-append (x ∷ xs) ys = go (p x) (those-append xs ys)
-    where
-      go : (b : Bool) → those p (xs ++ ys) ≡ those p xs ++ those p ys → keep b x (those p (xs ++ ys)) ≡ keep b x (those p xs) ++ those p ys
-      go true e = rw e
-      go false e = e
-
   pub those-length : (xs : List A) → length (those p xs) ≤ length xs
   those-length [] = omega arith
   those-length (x ∷ xs) = go (p x) (those-length xs)
@@ -35,14 +27,6 @@ module _ {A : Type 0} (p : A → Bool) where
       go : (b : Bool) → length (those p xs) ≤ length xs → length (keep b x (those p xs)) ≤ suc (length xs)
       go true l = omega arith
       go false l = omega arith
-
-  pub All-those : (P : A → Type 0) (xs : List A) → All P xs → All P (those p xs)
-  All-those P [] h = tt
-  All-those P (x ∷ xs) h = go (p x) (All-those P xs (h .1))
-    where
-      go : (b : Bool) → All P (those p xs) → All P (keep b x (those p xs))
-      go true g = (h .0, g)
-      go false g = g
 
 -- ---- atoms that go
 

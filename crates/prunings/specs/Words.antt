@@ -11,6 +11,7 @@ use Rattle.machine.specs.Lists.{those, sum, bind}
 use Rattle.machine.specs.Record.{Words, Atom, words}
 use Rattle.machine.specs.Store.{Branch, Machine, flat, atomCount, records, stored, laid, layOut, chunks, recordsOf, end}
 use Rattle.machine.specs.Edit.{up, withChildren, keepAtoms}
+use Rattle.laws.specs.Counting.{those-append, those-All}
 use Rattle.laws.specs.Places.{atoms, replace-sum}
 use Rattle.laws.specs.Grouped.{concat, concat-length, chunks-concat, chunks-length, twelve-words}
 use Rattle.laws.specs.Layout.{laid-length, laid-end, layOut-read, records-read, read-length, read-fit, fit-words}
@@ -21,7 +22,7 @@ use Rattle.seek.specs.Seek.{held, Good, Within, recordAt, between}
 use Rattle.seek.specs.Below.{chunks-snoc, between-nil}
 use Rattle.seek.specs.Laws.{Stands, spot-length, stands-within, stands-records}
 use Rattle.prunings.specs.Prune.{Laid, instead, Compacted, kept}
-use Rattle.prunings.specs.Laws.{those-append, those-length, All-those, kept-atoms, kept-count}
+use Rattle.prunings.specs.Laws.{those-length, kept-atoms, kept-count}
 
 -- ---- records laid out
 
@@ -121,7 +122,7 @@ module _ (p : Words → Bool) (from : ℕ) (w : List ℕ) where
 
   module _ (at to : ℕ) (s : List ℕ) (h : Within from at w) (c : Compacted p from at w to s) where
     written : length (concat (those p (between from at w))) ≡ 12 * length (those p (between from at w))
-    written = concat-length (those p (between from at w)) (All-those p _ (between from at w) (between-twelve w from at h))
+    written = concat-length (those p (between from at w)) (those-All _ p (between from at w) (between-twelve w from at h))
 
     pub compact-low : to ≤ at
     compact-low = let n = c .count in omega (arith, those-length p (between from at w), between-length w from at h)
@@ -162,7 +163,7 @@ module _ (p : Words → Bool) (from : ℕ) (w : List ℕ) where
       room = let n = c .count in let m = compact-low in omega arith
 
       moved : Rewritten w (over from (those p (between from at w)) (recordsOf w)) s
-      moved = rewritten w s (those p (between from at w)) from l (All-those p _ (between from at w) (between-twelve w from at h)) room (c .is)
+      moved = rewritten w s (those p (between from at w)) from l (those-All _ p (between from at w) (between-twelve w from at h)) room (c .is)
 
       pub compact-laid : Laid s
       compact-laid = moved .laid

@@ -1,0 +1,138 @@
+-- An addition that document 01's machine accepts lies in the domain, and its arguments can be prepared. Assumes nothing.
+use Prim.Native.Nat.{ℕ, zero, suc, _≤_}
+use mathlib.Core.Path.{_≡_, refl, sym, ap, _∙_}
+use mathlib.Core.Bool.{Bool, true, false, not, _&&_, cond, false≢true}
+use mathlib.Core.List.{[], map}
+use mathlib.Core.Option.{none, some, Option·map}
+use native.Mathlib.Omega.{arith}
+use lib.ListN.{length, length-map}
+use lib.Dec.{leb}
+use borrow.Author.Tests.{leb-true}
+use Rattle.machine.specs.Lists.{isEmpty, all}
+use Rattle.machine.specs.Answer.{Result, ok, refused, _>>=_}
+use Rattle.machine.specs.Text.{optionalOf, optional, pack, plain, raise, trim, fit, chainId, raised, insertionCode, conformerName, alternativeLocation, atomName}
+use Rattle.machine.specs.Record.{finite, goodValues}
+use Rattle.machine.specs.Edit.{NewAtom, accept, prepare, newAtom, Prepare}
+use Rattle.machine.specs.declared.Name.{Name}
+use Rattle.machine.specs.declared.Name.the-variants.{ChainId, InsertionCode, ConformerName, AlternativeLocation, AtomName}
+use Rattle.machine.specs.declared.Prepared.the-variants.{Stored, Absent, Bad}
+use Rattle.machine.specs.declared.Refusal.{Refusal}
+use Rattle.laws.specs.Lists.{and-both}
+use Rattle.laws.specs.Text.{trim-twice}
+use Rattle.pdbtbx.specs.Std.{Text, toUppercase}
+use Rattle.pdbtbx.specs.Structs.{Struct, validIdentifier, prepareIdentifier, prepareIdentifierUppercase}
+use Rattle.pdbtbx.specs.Edits.{residueNew}
+use Rattle.pdbtbx.specs.Calls.{present}
+use Rattle.pdbtbx.specs.Demand.{Short, Fitting, Flagged, Domain}
+use Rattle.pdbtbx.proofs.Names.{valid-plain, chained, raised-ready, named, located}
+use Rattle.pdbtbx.proofs.Additions.{floats, Ready, coded}
+
+-- ---- results
+
+pub bind-ok : {A B : Type 0} (r : Result A) (f : A → Result B) (y : B) → (r >>= f) ≡ ok y → (x : A) × (r ≡ ok x) × (f x ≡ ok y)
+bind-ok (ok x) f y h = (x, refl, h)
+bind-ok (refused c) f y h = let z : _≡_ {A = ℕ} 0 1 = cc in absurd (omega arith)
+
+bad-not : {A : Type 0} (c : Refusal) (x : A) → _≡_ {A = Result A} (refused c) (ok x) → ⊥
+bad-not c x h = let z : _≡_ {A = ℕ} 0 1 = cc in absurd (omega arith)
+
+-- ---- names
+
+fit-short : (n : Name) (t : Text) (w : ℕ) → accept n (fit t) ≡ ok w → length t ≤ 8
+fit-short n t w h = go (leb (length t) 8) refl h
+  where
+    go : (b : Bool) → leb (length t) 8 ≡ b → accept n (cond b (Stored (pack t)) Bad) ≡ ok w → length t ≤ 8
+    go true e k = leb-true (length t) 8 e
+    go false e k = absurd (bad-not _ w k)
+
+-- a rule that was met
+met : (n : Name) (b : Bool) (t : Text) (w : ℕ) → accept n (cond b (fit t) Bad) ≡ ok w → (b ≡ true) × (length t ≤ 8)
+met n true t w h = (refl, fit-short n t w h)
+met n false t w h = absurd (bad-not _ w h)
+
+prepares : (t : Text) → all plain t && not (isEmpty (trim t)) ≡ true → prepareIdentifier t ≡ some (trim t)
+unfolding prepareIdentifier
+prepares t h = let b = and-both (all plain t) (not (isEmpty (trim t))) h in rw (valid-plain t ∙ b .0, b .1)
+
+prepares-upper : (t : Text) → all plain t && not (isEmpty (trim t)) ≡ true → prepareIdentifierUppercase t ≡ some (toUppercase (trim t))
+unfolding prepareIdentifierUppercase
+prepares-upper t h = rw (prepares t h)
+
+unprepared : (t u : Text) → all plain t && not (isEmpty (trim t)) ≡ false → prepareIdentifierUppercase t ≡ some u → ⊥
+unfolding prepareIdentifierUppercase prepareIdentifier
+unprepared t u f e = go (validIdentifier t && not (isEmpty (trim t))) (ap (λ (b : Bool). b && not (isEmpty (trim t))) (valid-plain t) ∙ f) e
+  where
+    go : (b : Bool) → b ≡ false → Option·map toUppercase (cond b (some (trim t)) none) ≡ some u → ⊥
+    go true g k = false≢true (sym g)
+    go false g k = let z : _≡_ {A = ℕ} 0 1 = cc in absurd (omega arith)
+
+module _ (w : ℕ) where
+  chain-met : (t : Text) → accept ChainId (chainId t) ≡ ok w → (length (trim t) ≤ 8) × (prepareIdentifier (trim t) ≡ some (trim (trim t)))
+  unfolding chainId
+  chain-met t h =
+      let m = met ChainId (all plain (trim t) && not (isEmpty (trim t))) (trim t) w h in
+      (m .1, prepares (trim t) (ap (λ (s : Text). all plain (trim t) && not (isEmpty s)) (trim-twice t) ∙ m .0))
+
+  raised-met : (n : Name) (t : Text) → accept n (raised t Bad) ≡ ok w → (length (trim t) ≤ 8) × (prepareIdentifierUppercase t ≡ some (toUppercase (trim t)))
+  unfolding raised
+  raised-met n t h =
+      let m = met n (all plain t && not (isEmpty (trim t))) (map raise (trim t)) w h in
+      (omega (arith, m .1, length-map (trim t) raise), prepares-upper t (m .0))
+
+  name-met : (t : Text) → accept AtomName (atomName t) ≡ ok w → (length (trim t) ≤ 8) × (validIdentifier (trim t) ≡ true)
+  unfolding atomName
+  name-met t h =
+      let m = met AtomName (all plain (trim t)) (map raise (trim t)) w h in
+      (omega (arith, m .1, length-map (trim t) raise), valid-plain (trim t) ∙ m .0)
+
+  location-met : (flag : ℕ) (t : Text) → accept AlternativeLocation (optional alternativeLocation (optionalOf flag t)) ≡ ok w → Flagged flag (Fitting t)
+  unfolding raised
+  location-met zero t h = tt
+  location-met (suc zero) t h = λ u e. go u e (all plain t && not (isEmpty (trim t))) refl h
+    where
+      go : (u : Text) → prepareIdentifierUppercase t ≡ some u → (b : Bool) → all plain t && not (isEmpty (trim t)) ≡ b → accept AlternativeLocation (cond b (fit (map raise (trim t))) Absent) ≡ ok w → Short t
+      go u e true f k = omega (arith, fit-short AlternativeLocation (map raise (trim t)) w k, length-map (trim t) raise)
+      go u e false f k = absurd (unprepared t u f e)
+  location-met (suc (suc n)) t h = absurd (bad-not _ w h)
+
+  code-met : (serial flag : ℕ) (t : Text) → accept InsertionCode (optional insertionCode (optionalOf flag t)) ≡ ok w → Flagged flag (Short t) × ((new : Struct 2) × (residueNew serial (present flag t) ≡ some new))
+  unfolding residueNew
+  code-met serial zero t h = (tt, (_, refl))
+  code-met serial (suc zero) t h = let m = raised-met InsertionCode t h in (m .0, ((record { serial = serial; code = some (toUppercase (trim t)) }, []), rw (m .1)))
+  code-met serial (suc (suc n)) t h = absurd (bad-not _ w h)
+
+-- ---- an addition that is accepted
+
+module _ (a : NewAtom) (p : Prepare) (h : prepare a ≡ ok p) (g : goodValues (newAtom a p) ≡ true) where
+  pub record Fine : Type 0 where
+    pub domain : Domain a
+    pub ready : Ready a
+
+  pub fine : Fine
+  unfolding prepare goodValues
+  fine =
+      let c = bind-ok (accept ChainId (chainId (a .chain))) _ p h in
+      let i = bind-ok (accept InsertionCode (optional insertionCode (a .code))) _ p (c .2) in
+      let f = bind-ok (accept ConformerName (conformerName (a .conformer))) _ p (i .2) in
+      let l = bind-ok (accept AlternativeLocation (optional alternativeLocation (a .location))) _ p (f .2) in
+      let n = bind-ok (accept AtomName (atomName (a .name))) _ p (l .2) in
+      let cm = chain-met (c .0) (a .chain) (c .1) in
+      let im = code-met (i .0) (a .residue) (a .code .flag) (a .code .text) (i .1) in
+      let fm = raised-met (f .0) ConformerName (a .conformer) (f .1) in
+      let lm = location-met (l .0) (a .location .flag) (a .location .text) (l .1) in
+      let nm = name-met (n .0) (a .name) (n .1) in
+      let v = and-both (all finite (floats a) && leb (a .element) 118) (leb (a .hetero) 1) g in
+      let u = and-both (all finite (floats a)) (leb (a .element) 118) (v .0) in
+      record {
+        domain = record { chain = cm .0; code = im .0; conformer = fm .0; location = lm; name = nm .0; element = leb-true (a .element) 118 (u .1); hetero = leb-true (a .hetero) 1 (v .1) };
+        ready =
+            record {
+              chain = chained (a .chain) _ (cm .0) (cm .1);
+              code = coded (a .residue) (a .code .flag) (a .code .text) (im .1 .0) (im .0) (im .1 .1);
+              conformer = raised-ready (a .conformer) _ (fm .0) (fm .1);
+              location = located (a .location .flag) (a .location .text) lm;
+              name = named (a .name) (nm .0) (nm .1);
+              valid = nm .1;
+              finites = u .0;
+            };
+      }

@@ -1,0 +1,15 @@
+pub mod Values
+pub mod Trees
+pub mod Texts
+pub mod Hits
+pub mod Found
+pub mod Vecs
+pub mod Names
+pub mod Additions
+pub mod Removals
+pub mod Equal
+pub mod Accepted
+pub mod Converse
+pub mod Packed
+pub mod Demand
+pub mod Examples

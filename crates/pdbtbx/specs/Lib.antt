@@ -1,0 +1,9 @@
+pub mod Std
+pub mod Structs
+pub mod Words
+pub mod Search
+pub mod Matches
+pub mod Find
+pub mod Edits
+pub mod Calls
+pub mod Demand
