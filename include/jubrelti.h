@@ -177,7 +177,7 @@ JubreltiEdit jubrelti_join_conformers(uint64_t *store, size_t length, uint64_t m
 
 /* Further results; 1 and 2 are the store's. None of the edits was made then. */
 enum {
-    JUBRELTI_BAD_LIST = 22,     /* the list isn't one */
+    JUBRELTI_BAD_LIST = 22,     /* the words are not a well-formed list of edits */
     JUBRELTI_SHORT_ANSWERS = 23 /* the output is shorter than three words for each edit */
 };
 

@@ -25,7 +25,7 @@ pub struct Edits {
 pub enum ListError {
     /// 1 or 2: the store was refused.
     Store(Error),
-    /// 22: the list isn't one.
+    /// 22: the words are not a well-formed list of edits.
     BadList,
     /// 23: the output is shorter than three words for each edit.
     ShortOutput,

@@ -24,14 +24,14 @@ pub enum Error {
     JoinWithItself,
     /// 10: the output is shorter than five words for each hit.
     ShortOutput,
-    /// 11: the file given to the program `find` isn't one.
+    /// 11: the input of the program `find` isn't a store, a tree and the tree's start, or is over 65,536 bytes.
     BadFile,
     /// A text of a search that can't be packed. These bindings refuse it themselves, so it has no number.
     QueryText(String),
 }
 
 impl Error {
-    /// Document 01's number of the refusal.
+    /// The number of the refusal (docs/API.md).
     pub fn number(&self) -> Option<u64> {
         match self {
             Error::BadLength => Some(1),

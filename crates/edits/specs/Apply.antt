@@ -13,7 +13,7 @@ use Rattle.calls.specs.Format.{readCalls}
 use Rattle.edits.specs.declared.Applied.{Applied}
 use Rattle.edits.specs.declared.Applied.the-variants.{Done, Refused, BadList, ShortAnswers}
 
--- 22 and 23 lie above the numbers of document 01 and those promised to its requests
+-- 22 and 23 lie above the numbers of document 01; 12 to 21 are left free for later calls
 abbrev pub appliedNumbers : Applied → List ℕ
 appliedNumbers (Done calls) = 0 ∷ calls ∷ []
 appliedNumbers (Refused r) = refusalNumber r ∷ 0 ∷ []

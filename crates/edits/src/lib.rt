@@ -1,5 +1,5 @@
-// A list of edits as one call: the store is checked once, and each call then runs its core. An addition goes on from where the last
-// one went.
+// A list of edits as one call: the store is checked once, and each call then runs its core. Consecutive additions reuse the previous
+// insertion point, so a list in file order does not rescan the model.
 ghost use mathlib.Core.Path.{_≡_};
 ghost use mathlib.Core.Bool.{true};
 ghost use Prim.Native.Nat.{_+_, _*_, _≤_};
