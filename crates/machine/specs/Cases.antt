@@ -9,11 +9,12 @@ use Rattle.machine.specs.Lists.{bind, bytes}
 use Rattle.machine.specs.Answer.{Result, ok, refused, refusalNumber}
 use Rattle.machine.specs.Text.{packed, unpacked, withoutZeros, textOf, trimStart, trim, chainId, raised, atomName, matches, storedBy, packedText, Optional}
 use Rattle.machine.specs.Record.{Words, words, fieldsOf, goodValues, goodFields, goodRecord, readOut}
-use Rattle.machine.specs.Store.{flat, atomCount, laid, layOut, inOrder, goodLayout, cut, group, readStore}
+use Rattle.machine.specs.Store.{Machine, stored, flat, atomCount, laid, layOut, inOrder, goodLayout, cut, group, readStore}
 use Rattle.machine.specs.Query.{codes, nodeOf, nodesOf, run, leavesOne, readTree, treeValue, dropSign, close, termValue, tables, packedName}
 use Rattle.machine.specs.Find.{enter, atomsIn, atomsOf, hitsIn, hitsOf, findRun}
 use Rattle.machine.specs.Edit.{NewAtom, Call, AddModel, AddAtom, branchAt, replaceAt, addModel, prepare, upsert, addAtom, machineStep, storeStep, storeAfter, storeAnswers}
 use Rattle.machine.specs.Program.{readInput, digits, printed, programRun}
+use Rattle.machine.specs.Demand.{undecided}
 
 -- ---- stores
 
@@ -75,6 +76,14 @@ atoms (refused r) = bytes "refused" ++ (refusalNumber r ∷ [])
 
 abbrev pub found : List ℕ → List ℕ → List ℕ
 found w t = atoms (hitsOf w t)
+
+-- a count of the machine that a store's words hold
+abbrev pub counted : Result Machine → (Machine → ℕ) → ℕ
+counted (ok m) count = count m
+counted (refused r) count = 0
+
+abbrev pub held : List ℕ → (Machine → ℕ) → ℕ
+held w count = counted (readStore w) count
 
 -- ---- edits
 
@@ -157,6 +166,7 @@ cases =
     case 1 (found S element7) (4 ∷ 5 ∷ [])
     ∷ case 1 (findRun S element7 (replicate 11 9) .1) (0 ∷ 1 ∷ 2 ∷ 3 ∷ 4 ∷ 0 ∷ 1 ∷ 2 ∷ 3 ∷ 5 ∷ 9 ∷ [])
     ∷ case 2 (found S notElement7) (5 ∷ [])
+    ∷ case 2 (length (found S element7) ∷ length (found S notElement7) ∷ held S stored ∷ held S (undecided element7) ∷ []) (2 ∷ 1 ∷ 2 ∷ 1 ∷ [])
     ∷ case 2 (programRun (file S notElement7)) (bytes "0 1 2 3 5\nfound 1\n")
     ∷ case 3 (found S (node 14 (packedName "N") 0 ++ element7 ++ node 23 0 0)) (4 ∷ [])
     ∷ case 4 (found S (element7 ++ element7 ++ node 25 0 0)) (5 ∷ [])
@@ -173,5 +183,5 @@ cases =
     ∷ []
 
 pub worked : map (λ (c : Case). c .given) cases ≡ map (λ (c : Case). c .stated) cases
-unfolding cases S renamed withBFactor packed unpacked withoutZeros textOf trimStart trim chainId raised atomName matches storedBy packedText words fieldsOf goodValues goodFields goodRecord readOut flat atomCount laid layOut inOrder goodLayout cut group readStore codes nodeOf nodesOf run leavesOne readTree treeValue dropSign close termValue tables enter atomsIn atomsOf hitsIn hitsOf findRun branchAt replaceAt addModel prepare upsert addAtom machineStep storeStep storeAfter storeAnswers readInput digits printed programRun ofBits sub lt
+unfolding cases S renamed withBFactor packed unpacked withoutZeros textOf trimStart trim chainId raised atomName matches storedBy packedText words fieldsOf goodValues goodFields goodRecord readOut flat atomCount laid layOut inOrder goodLayout cut group readStore codes nodeOf nodesOf run leavesOne readTree treeValue dropSign close termValue tables enter atomsIn atomsOf hitsIn hitsOf findRun branchAt replaceAt addModel prepare upsert addAtom machineStep storeStep storeAfter storeAnswers readInput digits printed programRun undecided ofBits sub lt
 worked = refl

@@ -137,7 +137,7 @@ isOne (some []) = false
 isOne (some (a ∷ [])) = true
 isOne (some (a ∷ b ∷ s)) = false
 
--- whether the nodes leave exactly one operand, which no term's value changes
+-- whether the nodes leave exactly one operand; that they then do so whatever the terms' values are is a law (`run-one`, `laws`, Trees)
 unfoldable pub leavesOne : List Node → Bool
 leavesOne ns = isOne (run (λ (t : Term). Undecided) ns [])
 
@@ -191,7 +191,7 @@ onlyIf false o = none
 abbrev pub between : ℕ → ℕ → ℕ → Bool
 between low high n = leb low n && leb n high
 
--- a place with the kinds from low to high alone known
+-- a place with the kinds from low to high alone known: it serves laws about pruning and searches that start lower down, and no definition of document 01
 unfoldable pub window : ℕ → ℕ → Place → Place
 window low high e =
     record {
@@ -215,6 +215,10 @@ dropSign (fin s m e) = fin false m e
 -- "one rounded subtraction, sign dropped, strictly below 2^-52"
 unfoldable pub close : Float → Float → Bool
 close a b = lt (dropSign (sub binary64 a b)) (fin false 1 (negsuc 51))
+
+-- equality of signed numbers
+abbrev pub sameZ : ℤ → ℤ → Bool
+sameZ n m = leZ n m && leZ m n
 
 -- "Ranges include both ends."
 abbrev pub betweenZ : ℤ → ℤ → ℤ → Bool
@@ -246,10 +250,10 @@ termValue names e (ModelSerialNumber n) = known (e .model) (λ m. eqb (m .serial
 termValue names e (ModelSerialNumberRange low high) = known (e .model) (λ m. between low high (m .serial))
 termValue names e (ChainId t) = known (e .chain) (λ c. eqb (c .id) t)
 termValue names e (ChainIdRange low high) = known (e .chain) (λ c. between low high (c .id))
-termValue names e (ResidueSerialNumber n) = known (e .residue) (λ r. betweenZ n n (signed (r .serial)))
+termValue names e (ResidueSerialNumber n) = known (e .residue) (λ r. sameZ n (signed (r .serial)))
 termValue names e (ResidueSerialNumberRange low high) = known (e .residue) (λ r. betweenZ low high (signed (r .serial)))
 termValue names e (ResidueInsertionCode t) = known (e .residue) (λ r. eqb (r .code) t)
-termValue names e (ResidueId n t) = known (e .residue) (λ r. betweenZ n n (signed (r .serial)) && eqb (r .code) t)
+termValue names e (ResidueId n t) = known (e .residue) (λ r. sameZ n (signed (r .serial)) && eqb (r .code) t)
 termValue names e (ConformerName t) = known (e .conformer) (λ c. eqb (c .name) t)
 termValue names e (ConformerAlternativeLocation t) = known (e .conformer) (λ c. eqb (c .location) t)
 termValue names e (ConformerId n t) = known (e .conformer) (λ c. eqb (c .name) n && eqb (c .location) t)

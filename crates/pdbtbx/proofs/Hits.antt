@@ -11,7 +11,7 @@ use Rattle.machine.specs.Lists.{orElse, andThen, keep, those, sum, along}
 use Rattle.machine.specs.Record.{Fields, Conformer, Atom, readOut}
 use Rattle.machine.specs.Store.{Branch, flat}
 use Rattle.machine.specs.Kleene.{decided, isHit}
-use Rattle.machine.specs.Query.{Place, window, close, dropSign, known, elementIs, amongResidues, member, tables, termValue}
+use Rattle.machine.specs.Query.{Place, window, sameZ, close, dropSign, known, elementIs, amongResidues, member, tables, termValue}
 use Rattle.machine.specs.Find.{Site, enter, below, nowhere, size, atomsIn}
 use Rattle.machine.specs.declared.Tri.the-variants.{False, Undecided}
 use Rattle.machine.specs.declared.Term.{Term}
@@ -24,7 +24,7 @@ use Rattle.pdbtbx.specs.Std.{abs, withinEpsilon}
 use Rattle.pdbtbx.specs.Structs.{Says}
 use Rattle.pdbtbx.specs.Words.{isize, saysOf, structOf, structsOf}
 use Rattle.pdbtbx.specs.Search.{Search}
-use Rattle.pdbtbx.specs.Matches.{sameZ, optionalMatches, matchesAt}
+use Rattle.pdbtbx.specs.Matches.{optionalMatches, matchesAt}
 use Rattle.pdbtbx.specs.Find.{Item, find, countOf, item, items, findBelow}
 use Rattle.pdbtbx.specs.Demand.{value, Above}
 use Rattle.pdbtbx.proofs.Values.{value-same, listed, find-all}

@@ -6,20 +6,16 @@ use mathlib.Core.Bool.{Bool, false, not, _&&_, cond}
 use mathlib.Core.List.{List, [], _∷_}
 use mathlib.Core.Option.{Option, none, some, Option·map}
 use lib.Dec.{leb, eqb}
-use lib.IntN.{ℤ}
 use lib.Signed.{leZ}
 use lib.Ieee.{le}
 use Rattle.machine.specs.Lists.{any, same, bytes}
 use Rattle.machine.specs.Text.{before}
+use Rattle.machine.specs.Query.{sameZ}
 use Rattle.machine.specs.declared.Term.{Term}
 use Rattle.machine.specs.declared.Term.the-variants.{ModelSerialNumber, ModelSerialNumberRange, ChainId, ChainIdRange, ResidueSerialNumber, ResidueSerialNumberRange, ResidueInsertionCode, ResidueId, ConformerName, ConformerAlternativeLocation, ConformerId, AtomSerialNumber, AtomSerialNumberRange, AtomName, Element, BFactor, BFactorRange, Occupancy, OccupancyRange, Backbone, SideChain, Hetero}
 use Rattle.pdbtbx.specs.Std.{Text, sameOption, withinEpsilon}
 use Rattle.pdbtbx.specs.Structs.{Model, Chain, Residue, Conformer, Atom, Says}
 use Rattle.pdbtbx.specs.Words.{string, optionString, isize, f64}
-
--- == of two isize
-abbrev pub sameZ : ℤ → ℤ → Bool
-sameZ a b = leZ a b && leZ b a
 
 -- ---- src/reference_tables.rs
 

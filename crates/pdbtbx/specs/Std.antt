@@ -1,6 +1,6 @@
 -- Rust's std, as far as the crate's algorithms use it: each definition stands for the Rust beside it. A text is its list of bytes, all below 128.
--- Four more are taken as they stand elsewhere: `trim` is `str::trim`, `before` is `<=` of `str` (both machine, Text), `finite` is
--- `f64::is_finite` of a float's bits (machine, Record), and `those` is `filter` of an iterator and `retain` of a Vec (machine, Lists).
+-- Five more are taken as they stand in `machine`: `trim` is `str::trim`, `before` is `<=` of `str` (both Text), `finite` is `f64::is_finite` of a float's
+-- bits (Record), `sameZ` is `==` of `isize` (Query), and `those` is `filter` of an iterator and `retain` of a Vec (Lists).
 -- Assumes nothing else.
 use Prim.Native.Nat.{ℕ, zero, suc, _-_}
 use mathlib.Core.Bool.{Bool, true, false}

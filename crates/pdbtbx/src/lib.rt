@@ -11,6 +11,6 @@
 // - a loop with `break`, and the push that follows it, is an index and `onCurrent`.
 //
 // Assumed of std, for bytes below 128: specs/Std.antt, whose head names the definitions of `machine` that stand for `str::trim`, `<=` of `str`,
-// `f64::is_finite`, `filter` and `retain`.
+// `f64::is_finite`, `==` of `isize`, `filter` and `retain`.
 //
 // Left out: `Atom::new`'s guess of an element; `counter`, `atf`, `modification`, `database_reference`; lookup, which differs on purpose.
