@@ -6,10 +6,18 @@
  * A store is an array of words that the caller owns: 12 for each record (model, chain, residue, conformer or atom) and one more,
  * at most 1,200,001. Each call takes the store and its length in words first. Positions are indexes from 0, from the model down.
  * A text is a pointer and a length in bytes, without a zero byte at the end; an optional one has a flag before it, 0 absent or
- * 1 present. No pointer may be NULL: for an absent text give "" and 0. Floats and signed numbers are given by their bits.
- * docs/FORMATS.md has the words of stores, trees and hits.
+ * 1 present. Floats and signed numbers are given by their bits. docs/FORMATS.md has the words of stores, trees and hits.
  *
  * A call that refuses gives a number above 0 as its result and 0 in every other field, and has changed nothing.
+ *
+ * What a caller in C owes:
+ *   - each pointer is aligned for its type and valid for the length given with it; with length 0 it may be NULL, as for an absent
+ *     text;
+ *   - no slice that a call writes (its pointer isn't const) overlaps another slice of that call;
+ *   - while a call runs, no other thread writes one of its slices, or reads one that it writes.
+ * Nothing checks this. That every call returns, whatever the words hold, and that a refusal changes nothing, is proved of the
+ * Rattle functions, whose slices are always so. A find whose output lies in its own store overwrites records that it has yet to
+ * read: it may lose atoms, or write where it shouldn't.
  */
 #ifndef JUBRELTI_H
 #define JUBRELTI_H
@@ -113,7 +121,7 @@ uint64_t jubrelti_check(const uint64_t *store, size_t length);
 /* Sets every word to 0, an empty structure. Gives 0 or 1. */
 uint64_t jubrelti_open(uint64_t *store, size_t length);
 
-/* Copies the structure of a store into other words, whatever they hold: so it gets room for more records. The two may not overlap.
+/* Copies the structure of a store into other words, whatever they hold: so it gets room for more records.
    Gives 1 or 2 by the store that is copied, then 1 by the length of the other or 8 where its room is too small. */
 uint64_t jubrelti_copy(const uint64_t *from, size_t from_length, uint64_t *to, size_t to_length);
 

@@ -25,6 +25,9 @@
 //!
 //! A term that an atom can't decide (its element is missing) is neither true nor false, and such an atom is a hit: a query leaves
 //! out only the atoms where it is false.
+//!
+//! What `include/jubrelti.h` asks of a caller in C holds here by the types: each pointer comes with the length of a slice that is
+//! borrowed for the call, and one that the call writes is borrowed by `&mut`, so it overlaps no other. No safe code can break this.
 #![warn(missing_docs)]
 
 mod apply;

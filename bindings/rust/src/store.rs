@@ -1,5 +1,6 @@
-// Safety of the calls: each pointer comes with the length of its slice, and the slices live through the call. The library reads and
-// writes only inside them, whatever words they hold.
+// Safety of the calls: each pointer comes with the length of its slice, the slices live through the call, and one that is written
+// is borrowed by `&mut` or made for the call, so it overlaps no other. The library reads and writes only inside them, whatever words
+// they hold.
 use crate::ffi;
 use crate::{Error, Hit, Hits, Search};
 

@@ -53,7 +53,7 @@ use Rattle.hierarchy.proofs.Hit as T
 use Rattle.hierarchy.proofs.Hit.Laws as T′
 
 -- the hit's type, over the signature's lifetimes
-abbrev B : Lfts 1 → RattleType
+abbrev pub B : Lfts 1 → RattleType
 B κs = T.the-row (namedLft 1 0 tt κs)
 
 -- the machine values of its fields
@@ -94,7 +94,7 @@ module _ (S : Declared) (n : Number) where
             (seq (call callee (copy (place 2 []) ∷ copy (place 3 []) ∷ []) (place 0 [])) return));
       }
 
-  abbrev ended : Ended
+  abbrev pub ended : Ended
   ended =
       record {
         signature = record { lifetimes = 1; outlives = []; params = plain B ∷ []; result = plain (λ κs. row S) };
@@ -109,7 +109,7 @@ module _ (S : Declared) (n : Number) where
       }
 
   module _ (read : List ℕ → ℕ → S .D) {M : Type 1} (𝓤 : URA M) where
-    abbrev clauses : Clauses 𝓤 ended
+    abbrev pub clauses : Clauses 𝓤 ended
     clauses κs a =
         record {
           ghost = Unit {0};
