@@ -1,4 +1,5 @@
 // Terms, after pdbtbx's search.rs (document 01, "Trees and find"): Kleene's tables, and a term's value at its level and at a place.
+use machine::AtomRec;
 use machine::Ops;
 use machine::RecordNumbers;
 use machine::Term;
@@ -11,7 +12,7 @@ ghost use Prim.Native.Nat.{ℕ, _+_, _*_, _≤_, _<_};
 ghost use lib.ListN.{length, getD};
 ghost use lib.Dec.{eqb};
 ghost use Rattle.machine.specs.Kleene as Kleene;
-ghost use Rattle.machine.specs.Record.{fieldsOf};
+ghost use Rattle.machine.specs.Record.{Atom, fieldsOf, readOut};
 ghost use Rattle.machine.specs.Query as Query;
 ghost use Rattle.machine.specs.declared.Tri.the-variants.{False, Undecided};
 ghost use Rattle.terms.specs.Levels.{atModel, atChain, atResidue, atConformer, atAtom, recordAt, valueAt, narrow, Inside};
@@ -171,47 +172,29 @@ fn element_is(element: u64, n: u64) -> Tri
     }
 }
 
-// The twelve words of the atom's record are given, and those read that the term asks for.
-pub fn optional_matches_atom(t: Term, atom: &[u64], atoms: &[u64]) -> Tri
-    requires { ⌜ length (now atom) ≡ 12 ⌝ }
-    ensures { λ r. ⌜ ((others : List ℕ) → r ≡ Query.termValue (record { residues = others; atoms = now (atoms .entry) }) (atAtom (some (fieldsOf 0 (now (atom .entry))))) t) ⌝ }
+// The atom is given as it is read out of its record.
+pub fn optional_matches_atom(t: Term, atom: AtomRec, atoms: &[u64]) -> Tri
+    ensures { λ r. ⌜ ((a : Atom) → atom ≡ readOut a → (others : List ℕ) → r ≡ Query.termValue (record { residues = others; atoms = now (atoms .entry) }) (atAtom (some a)) t) ⌝ }
 {
     match t {
-        Term::AtomSerialNumber(n) => decided(atom[1] == n),
-        Term::AtomSerialNumberRange(low, high) => decided(between(low, high, atom[1])),
-        Term::AtomName(n) => decided(atom[2] == n),
-        Term::Element(n) => element_is(atom[8], n),
-        Term::BFactor(x) => decided(floats::close(floats::float_of(atom[7]), x)),
-        Term::BFactorRange(low, high) => decided(between_floats(
-            low,
-            high,
-            floats::float_of(atom[7]),
-        )),
-        Term::Occupancy(x) => decided(floats::close(floats::float_of(atom[6]), x)),
-        Term::OccupancyRange(low, high) => decided(between_floats(
-            low,
-            high,
-            floats::float_of(atom[6]),
-        )),
-        Term::Backbone => decided(reference_tables::contains(atoms, atom[2])),
-        Term::SideChain => decided(!reference_tables::contains(atoms, atom[2])),
-        Term::Hetero => decided(atom[10] == 1),
+        Term::AtomSerialNumber(n) => decided(atom.serial == n),
+        Term::AtomSerialNumberRange(low, high) => decided(between(low, high, atom.serial)),
+        Term::AtomName(n) => decided(atom.name == n),
+        Term::Element(n) => element_is(atom.element, n),
+        Term::BFactor(x) => decided(floats::close(atom.b_factor, x)),
+        Term::BFactorRange(low, high) => decided(between_floats(low, high, atom.b_factor)),
+        Term::Occupancy(x) => decided(floats::close(atom.occupancy, x)),
+        Term::OccupancyRange(low, high) => decided(between_floats(low, high, atom.occupancy)),
+        Term::Backbone => decided(reference_tables::contains(atoms, atom.name)),
+        Term::SideChain => decided(!reference_tables::contains(atoms, atom.name)),
+        Term::Hetero => decided(atom.hetero),
         _ => Tri::Undecided,
     }
 }
 
 // ---- a term's value at a place
 
-// The twelve words of a record, and one of them.
-fn record_at(words: &[u64], number: u64) -> &[u64]
-    requires { ⌜ number * 12 + 12 ≤ length (now words) ⌝ }
-    ensures { λ r. ⌜ now r ≡ recordAt (now (words .entry)) number ⌝ }
-{
-    let at = number as usize * 12;
-    let end = at + 12;
-    &words[at..end]
-}
-
+// One of the twelve words of a record.
 fn word(words: &[u64], number: u64, k: usize) -> u64
     requires { ⌜ (number * 12 + 12 ≤ length (now words)) × (k < 12) ⌝ }
     ensures { λ r. ⌜ r ≡ getD (recordAt (now (words .entry)) number) k 0 ⌝ }
@@ -269,7 +252,7 @@ fn atom_value(t: Term, words: &[u64], number: u64, known: bool, atoms: &[u64]) -
     ensures { λ r. ⌜ ((others : List ℕ) → r ≡ Query.termValue (record { residues = others; atoms = now (atoms .entry) }) (atAtom (Query.onlyIf known (some (fieldsOf 0 (recordAt (now (words .entry)) number))))) t) ⌝ }
 {
     if known {
-        optional_matches_atom(t, record_at(words, number), atoms)
+        optional_matches_atom(t, store::read_atom(words, number as usize), atoms)
     } else {
         Tri::Undecided
     }
@@ -290,8 +273,8 @@ fn narrowed(a: Tri, b: Tri) -> Tri
     }
 }
 
-// Only words that the term asks for are read, of records whose kind is one from low to high. Backbone and SideChain ask
-// for two records: the atom's first, as the conformer's names are the longer list.
+// Only the records that the term asks for are read, where their kinds are from low to high. Backbone and SideChain ask for
+// two: the atom's comes first, as the conformer's names are the longer list.
 pub fn term_value(
     t: Term,
     words: &[u64],
