@@ -1,6 +1,8 @@
 // Queries, after pdbtbx's search.rs (document 01, "Trees and find"): a tree's nodes, its check, and its value at a place.
 use elements::Element;
+use elements::MaybeElement;
 use machine::Ops;
+use machine::Record;
 use machine::RecordNumbers;
 use machine::Refusal;
 use machine::Term;
@@ -98,7 +100,13 @@ fn good_parameters(code: u64, p: u64, q: u64) -> bool
         3 | 7 | 9 | 10 | 14 => helper::packed_text(p) & (q == 0),
         4 | 11 => helper::packed_text(p) & helper::packed_text(q),
         8 => helper::packed_text(q),
-        15 => Element::is_element(p) & (q == 0),
+        15 => {
+            let found = Element::from_number(p);
+            match found {
+                MaybeElement::Is(_) => q == 0,
+                MaybeElement::NotOne => false,
+            }
+        }
         _ => (p == 0) & (q == 0),
     }
 }
@@ -194,32 +202,32 @@ pub fn check_tree(tree: &[u64]) -> CheckedTree
 // By code: the kind that a term asks for, the lesser where it asks for two. An operator asks nothing; a constant may decide.
 const KINDS: [u64; 29] = [
     0, // no code
-    1, // ModelSerialNumber
-    1, // ModelSerialNumberRange
-    2, // ChainId
-    2, // ChainIdRange
-    3, // ResidueSerialNumber
-    3, // ResidueSerialNumberRange
-    3, // ResidueInsertionCode
-    3, // ResidueId
-    4, // ConformerName
-    4, // ConformerAlternativeLocation
-    4, // ConformerId
-    5, // AtomSerialNumber
-    5, // AtomSerialNumberRange
-    5, // AtomName
-    5, // Element
-    5, // BFactor
-    5, // BFactorRange
-    5, // Occupancy
-    5, // OccupancyRange
-    4, // Backbone
-    4, // SideChain
-    5, // Hetero
-    5, // And
-    5, // Or
-    5, // Xor
-    5, // Not
+    Record::MODEL, // ModelSerialNumber
+    Record::MODEL, // ModelSerialNumberRange
+    Record::CHAIN, // ChainId
+    Record::CHAIN, // ChainIdRange
+    Record::RESIDUE, // ResidueSerialNumber
+    Record::RESIDUE, // ResidueSerialNumberRange
+    Record::RESIDUE, // ResidueInsertionCode
+    Record::RESIDUE, // ResidueId
+    Record::CONFORMER, // ConformerName
+    Record::CONFORMER, // ConformerAlternativeLocation
+    Record::CONFORMER, // ConformerId
+    Record::ATOM, // AtomSerialNumber
+    Record::ATOM, // AtomSerialNumberRange
+    Record::ATOM, // AtomName
+    Record::ATOM, // Element
+    Record::ATOM, // BFactor
+    Record::ATOM, // BFactorRange
+    Record::ATOM, // Occupancy
+    Record::ATOM, // OccupancyRange
+    Record::CONFORMER, // Backbone
+    Record::CONFORMER, // SideChain
+    Record::ATOM, // Hetero
+    Record::ATOM, // And
+    Record::ATOM, // Or
+    Record::ATOM, // Xor
+    Record::ATOM, // Not
     0, // known false
     0, // known true
 ];
@@ -244,7 +252,7 @@ fn lesser(a: u64, b: u64) -> u64
 pub fn lowest_kind(tree: &[u64]) -> u64
     ensures { λ r. ⌜ r ≡ lowestFrom 5 (now (tree .entry)) ⌝ }
 {
-    let mut lowest: u64 = 5;
+    let mut lowest: u64 = Record::ATOM;
     let mut i: usize = 0;
     while i < tree.len() {
         lowest = lesser(kind_for(tree[i]), lowest);

@@ -1,6 +1,7 @@
 // Terms, after pdbtbx's search.rs (document 01, "Trees and find"): Kleene's tables, and a term's value at its level and at a place.
 use machine::AtomRec;
 use machine::Ops;
+use machine::Record;
 use machine::RecordNumbers;
 use machine::Term;
 use machine::Tri;
@@ -199,7 +200,7 @@ fn word(words: &[u64], number: u64, k: usize) -> u64
     requires { ⌜ (number * 12 + 12 ≤ length (now words)) × (k < 12) ⌝ }
     ensures { λ r. ⌜ r ≡ getD (recordAt (now (words .entry)) number) k 0 ⌝ }
 {
-    words[number as usize * 12 + k]
+    words[number as usize * Record::WIDTH + k]
 }
 
 // The term's value where the record of one level alone is known, or where nothing is.
@@ -208,7 +209,7 @@ fn model_value(t: Term, words: &[u64], number: u64, known: bool) -> Tri
     ensures { λ r. ⌜ ((names : Query.Names) → r ≡ Query.termValue names (atModel (Query.onlyIf known (some (fieldsOf 4 (recordAt (now (words .entry)) number))))) t) ⌝ }
 {
     if known {
-        optional_matches_model(t, word(words, number, 1))
+        optional_matches_model(t, word(words, number, Record::SERIAL))
     } else {
         Tri::Undecided
     }
@@ -219,7 +220,7 @@ fn chain_value(t: Term, words: &[u64], number: u64, known: bool) -> Tri
     ensures { λ r. ⌜ ((names : Query.Names) → r ≡ Query.termValue names (atChain (Query.onlyIf known (some (fieldsOf 3 (recordAt (now (words .entry)) number))))) t) ⌝ }
 {
     if known {
-        optional_matches_chain(t, word(words, number, 1))
+        optional_matches_chain(t, word(words, number, Record::CHAIN_ID))
     } else {
         Tri::Undecided
     }
@@ -230,7 +231,9 @@ fn residue_value(t: Term, words: &[u64], number: u64, known: bool) -> Tri
     ensures { λ r. ⌜ ((names : Query.Names) → r ≡ Query.termValue names (atResidue (Query.onlyIf known (some (fieldsOf 2 (recordAt (now (words .entry)) number))))) t) ⌝ }
 {
     if known {
-        optional_matches_residue(t, word(words, number, 1), word(words, number, 2))
+        let serial = word(words, number, Record::SERIAL);
+        let code = word(words, number, Record::CODE);
+        optional_matches_residue(t, serial, code)
     } else {
         Tri::Undecided
     }
@@ -241,7 +244,9 @@ fn conformer_value(t: Term, words: &[u64], number: u64, known: bool, residues: &
     ensures { λ r. ⌜ ((others : List ℕ) → r ≡ Query.termValue (record { residues = now (residues .entry); atoms = others }) (atConformer (Query.onlyIf known (some (fieldsOf 1 (recordAt (now (words .entry)) number))))) t) ⌝ }
 {
     if known {
-        optional_matches_conformer(t, word(words, number, 1), word(words, number, 2), residues)
+        let name = word(words, number, Record::CONFORMER_NAME);
+        let location = word(words, number, Record::LOCATION);
+        optional_matches_conformer(t, name, location, residues)
     } else {
         Tri::Undecided
     }
@@ -289,23 +294,26 @@ pub fn term_value(
 {
     match t {
         Term::ModelSerialNumber(_) | Term::ModelSerialNumberRange(_, _) => {
-            model_value(t, words, at.model, between(low, high, 1))
+            model_value(t, words, at.model, between(low, high, Record::MODEL))
         }
         Term::ChainId(_) | Term::ChainIdRange(_, _) => {
-            chain_value(t, words, at.chain, between(low, high, 2))
+            chain_value(t, words, at.chain, between(low, high, Record::CHAIN))
         }
         Term::ResidueSerialNumber(_)
         | Term::ResidueSerialNumberRange(_, _)
         | Term::ResidueInsertionCode(_)
-        | Term::ResidueId(_, _) => residue_value(t, words, at.residue, between(low, high, 3)),
+        | Term::ResidueId(_, _) => {
+            residue_value(t, words, at.residue, between(low, high, Record::RESIDUE))
+        }
         _ => {
-            let last = atom_value(t, words, at.atom, between(low, high, 5), atoms);
+            let last = atom_value(t, words, at.atom, between(low, high, Record::ATOM), atoms);
             match last {
                 Tri::False => Tri::False,
-                _ => narrowed(
-                    last,
-                    conformer_value(t, words, at.conformer, between(low, high, 4), residues),
-                ),
+                _ => {
+                    let known = between(low, high, Record::CONFORMER);
+                    let above = conformer_value(t, words, at.conformer, known, residues);
+                    narrowed(last, above)
+                }
             }
         }
     }
