@@ -200,11 +200,12 @@ all-good true true true false e f g = refl
 all-good true true true true false f g = refl
 all-good true true true true true f g = refl
 
-pub values-good : (v : Values.NewAtom) (a b c d e : Bool)
+pub values-good : (v : Values.NewAtom) (a b c d e f : Bool)
     → a ≡ finite (v .x) → b ≡ finite (v .y) → c ≡ finite (v .z) → d ≡ finite (v .occupancy) → e ≡ finite (v .«b_factor»)
-    → (((a && b) && c) && (d && e)) && leb (v .element) 118 && leb (v .hetero) 1 ≡ goodValues (atomOf v 0)
+    → f ≡ leb (v .element) 118
+    → (((a && b) && c) && (d && e)) && f && leb (v .hetero) 1 ≡ goodValues (atomOf v 0)
 unfolding goodValues
-values-good v a b c d e x y z o f = all-good a b c d e (leb (v .element) 118) (leb (v .hetero) 1) ∙ rw (x, y, z, o, f)
+values-good v a b c d e f x y z o t l = all-good a b c d e f (leb (v .hetero) 1) ∙ rw (x, y, z, o, t, l)
 
 -- ---- put_records
 

@@ -13,11 +13,12 @@ ghost use Rattle.machine.specs.Edit.{prepare, addModel, addAtom, relaid};
 ghost use Rattle.seek.specs.Seek.{Good, held, span};
 ghost use Rattle.places.specs.Place.{Known};
 ghost use Rattle.additions.specs.Add.{atomOf, given, named, wordOf, preparedOf, resultOf, columnWords, put, intoModel};
+use elements::Element;
 use machine::Edited;
 use machine::Prepared;
+use machine::Record;
 use machine::Refusal;
 use places::Place;
-use seek::Record;
 use seek::Span;
 
 // A new atom's numbers; floats and the charge are given by their bits.
@@ -113,35 +114,44 @@ fn good_values(values: NewAtom) -> bool
         & floats::is_finite(values.y)
         & floats::is_finite(values.z);
     let factors = floats::is_finite(values.occupancy) & floats::is_finite(values.b_factor);
-    position & factors & (values.element <= 118) & (values.hetero <= 1)
+    position & factors & Element::is_stored(values.element) & (values.hetero <= 1)
 }
 
 // ---- the new records
 
+// Where a column's residue, conformer and atom stand below its chain, and how many words it has.
+const RESIDUE_AT: usize = Record::WIDTH;
+
+const CONFORMER_AT: usize = 2 * Record::WIDTH;
+
+const ATOM_AT: usize = 3 * Record::WIDTH;
+
+const COLUMN: usize = 4 * Record::WIDTH;
+
 // The words of a chain, its residue, the residue's conformer and the atom.
-fn column_of(names: Names, residue: u64, values: NewAtom) -> [u64; 48]
+fn column_of(names: Names, residue: u64, values: NewAtom) -> [u64; COLUMN]
     ensures { λ r. ⌜ r ≡ columnWords names residue values ⌝ }
 {
-    let mut column: [u64; 48] = [0; 48];
-    column[0] = Record::CHAIN;
-    column[1] = names.chain;
-    column[12] = Record::RESIDUE;
-    column[13] = residue;
-    column[14] = names.code;
-    column[24] = Record::CONFORMER;
-    column[25] = names.conformer;
-    column[26] = names.location;
-    column[36] = Record::ATOM;
-    column[37] = values.serial;
-    column[38] = names.name;
-    column[39] = values.x;
-    column[40] = values.y;
-    column[41] = values.z;
-    column[42] = values.occupancy;
-    column[43] = values.b_factor;
-    column[44] = values.element;
-    column[45] = values.charge;
-    column[46] = values.hetero;
+    let mut column = [0u64; COLUMN];
+    column[Record::KIND] = Record::CHAIN;
+    column[Record::CHAIN_ID] = names.chain;
+    column[RESIDUE_AT + Record::KIND] = Record::RESIDUE;
+    column[RESIDUE_AT + Record::SERIAL] = residue;
+    column[RESIDUE_AT + Record::CODE] = names.code;
+    column[CONFORMER_AT + Record::KIND] = Record::CONFORMER;
+    column[CONFORMER_AT + Record::CONFORMER_NAME] = names.conformer;
+    column[CONFORMER_AT + Record::LOCATION] = names.location;
+    column[ATOM_AT + Record::KIND] = Record::ATOM;
+    column[ATOM_AT + Record::SERIAL] = values.serial;
+    column[ATOM_AT + Record::ATOM_NAME] = names.name;
+    column[ATOM_AT + Record::X] = values.x;
+    column[ATOM_AT + Record::Y] = values.y;
+    column[ATOM_AT + Record::Z] = values.z;
+    column[ATOM_AT + Record::OCCUPANCY] = values.occupancy;
+    column[ATOM_AT + Record::B_FACTOR] = values.b_factor;
+    column[ATOM_AT + Record::ELEMENT] = values.element;
+    column[ATOM_AT + Record::CHARGE] = values.charge;
+    column[ATOM_AT + Record::HETERO] = values.hetero;
     column
 }
 

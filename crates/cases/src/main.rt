@@ -1,6 +1,7 @@
 // Worked cases 9 and 10 of document 01 as runs of the code.
 use additions::NewAtom;
 use machine::Edited;
+use machine::Record;
 use structs::model;
 use structs::pdb;
 
@@ -48,7 +49,7 @@ fn case_9(store: &mut [u64]) {
 // The first three words of a record, if it is there.
 fn print_record(store: &[u64], record: usize) {
     if record < 100 {
-        let at = record * 12;
+        let at = record * Record::WIDTH;
         if at + 2 < store.len() {
             print_word(store[at]);
             print_word(store[at + 1]);

@@ -7,8 +7,8 @@ ghost use Rattle.machine.specs.Store.{laid};
 ghost use Rattle.seek.specs.Seek.{held, Good};
 ghost use Rattle.copies.specs.Copy.{room, written, copyRun};
 use machine::Opened;
+use machine::Record;
 use machine::Refusal;
-use seek::Record;
 use store::Checked;
 
 // After the words up to `end` zeros, then the trailer.

@@ -1,7 +1,6 @@
 // "`Element`: a number, with constants and tests belonging to its type" (elements.rs).
 ghost use mathlib.Core.Path.{_≡_};
 ghost use lib.Dec.{leb};
-ghost use Rattle.machine.specs.Query.{goodParameter, element};
 ghost use Rattle.elements.specs.Element.{elementOf};
 
 pub struct Element {
@@ -21,10 +20,13 @@ impl Element {
     pub const LAST: u64 = 118;
 
     // "elements 1..118", as a tree's parameter is
-    pub fn is_element(n: u64) -> bool
-        ensures { λ r. ⌜ r ≡ goodParameter element n ⌝ }
+    pub fn from_number(n: u64) -> MaybeElement
+        ensures { λ r. ⌜ r ≡ elementOf n ⌝ }
     {
-        Self::FIRST <= n && n <= Self::LAST
+        if (Self::FIRST <= n) & (n <= Self::LAST) {
+            return MaybeElement::Is(Element { number: n });
+        }
+        MaybeElement::NotOne
     }
 
     // "element 1..118 or 0 missing", as an atom's word is
@@ -32,15 +34,5 @@ impl Element {
         ensures { λ r. ⌜ r ≡ leb n 118 ⌝ }
     {
         n <= Self::LAST
-    }
-
-    pub fn from_number(n: u64) -> MaybeElement
-        ensures { λ r. ⌜ r ≡ elementOf n ⌝ }
-    {
-        if Self::is_element(n) {
-            MaybeElement::Is(Element { number: n })
-        } else {
-            MaybeElement::NotOne
-        }
     }
 }

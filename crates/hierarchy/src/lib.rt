@@ -4,8 +4,8 @@ ghost use Prim.Native.Nat.{_<_};
 ghost use lib.ListN.{getD};
 ghost use Rattle.hierarchy.specs.Hit.{recordOf, isKind, areKinds, namedBy, nthOf, hitOf, modelOf, chainOf, residueOf, conformerOf, atomOf};
 use machine::AtomRec;
+use machine::Record;
 use machine::RecordNumbers;
-use seek::Record;
 
 pub struct ModelRec {
     pub serial: u64,
@@ -61,7 +61,7 @@ pub fn model_at(store: &[u64], number: u64) -> ModelRec
     ensures { λ r. ⌜ r ≡ modelOf (now (store .entry)) number ⌝ }
 {
     ModelRec {
-        serial: word(store, number, 1),
+        serial: word(store, number, Record::SERIAL),
     }
 }
 
@@ -69,7 +69,7 @@ pub fn chain_at(store: &[u64], number: u64) -> ChainRec
     ensures { λ r. ⌜ r ≡ chainOf (now (store .entry)) number ⌝ }
 {
     ChainRec {
-        id: word(store, number, 1),
+        id: word(store, number, Record::CHAIN_ID),
     }
 }
 
@@ -77,8 +77,8 @@ pub fn residue_at(store: &[u64], number: u64) -> ResidueRec
     ensures { λ r. ⌜ r ≡ residueOf (now (store .entry)) number ⌝ }
 {
     ResidueRec {
-        serial: floats::int_of(word(store, number, 1)),
-        code: word(store, number, 2),
+        serial: floats::int_of(word(store, number, Record::SERIAL)),
+        code: word(store, number, Record::CODE),
     }
 }
 
@@ -86,8 +86,8 @@ pub fn conformer_at(store: &[u64], number: u64) -> ConformerRec
     ensures { λ r. ⌜ r ≡ conformerOf (now (store .entry)) number ⌝ }
 {
     ConformerRec {
-        name: word(store, number, 1),
-        location: word(store, number, 2),
+        name: word(store, number, Record::CONFORMER_NAME),
+        location: word(store, number, Record::LOCATION),
     }
 }
 
@@ -99,14 +99,14 @@ pub fn atom_at(store: &[u64], number: u64) -> AtomRec
     if n < count {
         return store::read_atom(store, n);
     }
-    let none: [u64; 12] = [0; 12];
+    let none = [0u64; Record::WIDTH];
     store::read_atom(&none, 0)
 }
 
 fn is_kind(store: &[u64], number: u64, kind: u64) -> bool
     ensures { λ r. ⌜ r ≡ isKind (now (store .entry)) number kind ⌝ }
 {
-    word(store, number, 0) == kind
+    word(store, number, Record::KIND) == kind
 }
 
 fn are_kinds(store: &[u64], at: RecordNumbers) -> bool

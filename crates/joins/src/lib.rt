@@ -9,8 +9,8 @@ ghost use Rattle.laws.specs.Grouped.{concat};
 ghost use Rattle.seek.specs.Seek.{Good, held};
 ghost use Rattle.joins.specs.Join.{join, cutTurned, Turns};
 use machine::Edited;
+use machine::Record;
 use machine::Refusal;
-use seek::Record;
 use seek::Span;
 
 // The record `gone` goes; then the records from a to m and those from m to b change places.

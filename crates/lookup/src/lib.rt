@@ -10,9 +10,9 @@ ghost use Rattle.machine.specs.Lookup.{spans};
 ghost use Rattle.seek.specs.Seek.{Good, Within, held, recordAt, between, spanOf};
 ghost use Rattle.lookup.specs.Level.{answer, Level, spanWanted, atomSerials, wantedRecords};
 use machine::LookedUp;
+use machine::Record;
 use machine::RecordNumbers;
 use machine::Refusal;
-use seek::Record;
 use seek::Span;
 
 // The serial of the last atom among the records from `from` up to `end`; `first` where there is none.
@@ -24,7 +24,7 @@ fn last_serial(store: &[u64], from: usize, end: usize, first: u64) -> u64
     while from < at {
         let word = (at - 1) * Record::WIDTH;
         if store[word] == Record::ATOM {
-            return store[word + 1];
+            return store[word + Record::SERIAL];
         }
         at -= 1;
     }
@@ -40,7 +40,7 @@ fn spans_serial(store: &[u64], from: usize, end: usize, serial: u64) -> bool
     while at < end {
         let word = at * Record::WIDTH;
         if store[word] == Record::ATOM {
-            let first = store[word + 1];
+            let first = store[word + Record::SERIAL];
             if serial < first {
                 return false;
             }
@@ -60,7 +60,7 @@ fn has_serial(store: &[u64], from: usize, end: usize, serial: u64) -> bool
     while at < end {
         let word = at * Record::WIDTH;
         if store[word] == Record::ATOM {
-            if serial == store[word + 1] {
+            if serial == store[word + Record::SERIAL] {
                 return true;
             }
             at += 1;
@@ -86,10 +86,10 @@ fn is_wanted(
 {
     let word = at * Record::WIDTH;
     if level == 0 {
-        return serial == store[word + 1];
+        return serial == store[word + Record::SERIAL];
     }
     if level == 1 {
-        if helper::same_optional(flag, location, store[word + 2]) {
+        if helper::same_optional(flag, location, store[word + Record::LOCATION]) {
             if spans_serial(store, at + 1, stop, serial) {
                 return has_serial(store, at + 1, stop, serial);
             }

@@ -1,4 +1,4 @@
-// The types that the definitions of specs/ go by. Names are pdbtbx's where it has one.
+// The types that the definitions of specs/ go by, and a record's numbers. Names are pdbtbx's where it has one.
 
 // Kleene's three values.
 pub enum Tri {
@@ -45,6 +45,59 @@ pub enum Node {
     Binary(Ops),
     Not,
     Known(bool),
+}
+
+// A record's width in words, its kinds, and the words at which its fields stand.
+pub struct Record;
+
+impl Record {
+    pub const WIDTH: usize = 12;
+
+    pub const MODEL: u64 = 1;
+
+    pub const CHAIN: u64 = 2;
+
+    pub const RESIDUE: u64 = 3;
+
+    pub const CONFORMER: u64 = 4;
+
+    pub const ATOM: u64 = 5;
+
+    pub const KIND: usize = 0;
+
+    // A record's first field and its second, where they are read for several kinds at once.
+    pub const FIRST: usize = 1;
+
+    pub const SECOND: usize = 2;
+
+    // Of a model, a residue and an atom.
+    pub const SERIAL: usize = 1;
+
+    pub const CHAIN_ID: usize = 1;
+
+    pub const CODE: usize = 2;
+
+    pub const CONFORMER_NAME: usize = 1;
+
+    pub const LOCATION: usize = 2;
+
+    pub const ATOM_NAME: usize = 2;
+
+    pub const X: usize = 3;
+
+    pub const Y: usize = 4;
+
+    pub const Z: usize = 5;
+
+    pub const OCCUPANCY: usize = 6;
+
+    pub const B_FACTOR: usize = 7;
+
+    pub const ELEMENT: usize = 8;
+
+    pub const CHARGE: usize = 9;
+
+    pub const HETERO: usize = 10;
 }
 
 // An atom read out of its record.

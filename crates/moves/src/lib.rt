@@ -3,6 +3,7 @@ ghost use mathlib.Core.Path.{_≡_};
 ghost use Prim.Native.Nat.{_+_, _≤_};
 ghost use lib.ListN.{length, take, drop, replicate};
 ghost use Rattle.moves.specs.Over.{over, removed, gapped, reversed, rotated};
+use machine::Record;
 
 // The words of `from` are written over those at `at`.
 pub fn write_over(s: &mut [u64], at: usize, from: &[u64])
@@ -52,12 +53,12 @@ pub fn clear(s: &mut [u64], from: usize, n: usize)
     }
 }
 
-// One record of 12 words goes down, as a record that a compaction keeps does.
+// One record goes down, as a record that a compaction keeps does.
 pub fn keep_record(s: &mut [u64], from: usize, to: usize)
     requires { ⌜ (to ≤ from) × (from + 12 ≤ length (now s)) ⌝ }
     ensures { λ _. ⌜ now (s .exit) ≡ over to (take 12 (drop from (now (s .entry)))) (now (s .entry)) ⌝ }
 {
-    move_down(s, from, to, 12);
+    move_down(s, from, to, Record::WIDTH);
 }
 
 // The words from `from` to `to` go, those up to `end` move down, and zeros fill what that leaves below `end`.

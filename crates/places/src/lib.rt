@@ -10,7 +10,7 @@ ghost use Rattle.machine.specs.Text.{optionalOf};
 ghost use Rattle.seek.specs.Seek.{Good, Within, held, recordAt, between, span, spanOf};
 ghost use Rattle.places.specs.Pick.{keyOf, marks, pickStart, pickSpan, childOf, keysOf, spotIn, foundOf};
 ghost use Rattle.places.specs.Place.{rank, Known, Lands, Moves};
-use seek::Record;
+use machine::Record;
 use seek::Span;
 
 // ---- records by what marks them
@@ -23,10 +23,10 @@ fn is_marked(store: &[u64], at: usize, kind: u64, word: u64, flag: u64, text: &[
     if store[at * Record::WIDTH] != kind {
         return false;
     }
-    if store[at * Record::WIDTH + 1] != word {
+    if store[at * Record::WIDTH + Record::FIRST] != word {
         return false;
     }
-    helper::same_optional(flag, text, store[at * Record::WIDTH + 2])
+    helper::same_optional(flag, text, store[at * Record::WIDTH + Record::SECOND])
 }
 
 // The number of a record.

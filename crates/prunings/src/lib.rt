@@ -11,8 +11,8 @@ ghost use Rattle.moves.specs.Over.{over};
 ghost use Rattle.seek.specs.Seek.{held, Good, Within, recordAt, between};
 ghost use Rattle.prunings.specs.Prune.{Laid, stays, Gathered};
 use machine::Edited;
+use machine::Record;
 use machine::Refusal;
-use seek::Record;
 use seek::Span;
 
 // The records from `to` up to `end` go: those after them move down, zeros fill what that leaves, and the trailer follows.

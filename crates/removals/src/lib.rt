@@ -7,8 +7,8 @@ ghost use Rattle.seek.specs.Seek.{Good, Within, between, atomRecords};
 ghost use Rattle.removals.specs.Removal.{Removable, withoutRecords, removal, edited};
 ghost use Rattle.removals.specs.Named.{idOf, named, sought, before, firstRemoval, chainById, residueById, conformerById, atomBySerialNumber};
 use machine::Edited;
+use machine::Record;
 use machine::Refusal;
-use seek::Record;
 use seek::Span;
 
 // The records from number p up to q go, and the trailer is set: how many atoms went.
@@ -91,8 +91,8 @@ fn first_named(
         if store[word] == kind {
             if is_named(
                 kind,
-                store[word + 1],
-                store[word + 2],
+                store[word + Record::FIRST],
+                store[word + Record::SECOND],
                 serial,
                 name,
                 flag,

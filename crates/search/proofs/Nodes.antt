@@ -1,25 +1,29 @@
 -- Nodes by their codes, the good ones and the others. Assumes nothing.
 use Prim.Native.Nat.{ℕ, zero, suc, _+_, _≤_, _<_}
-use mathlib.Core.Path.{_≡_, refl, sym, ap}
-use mathlib.Core.Bool.{Bool, true, false, _&&_, _||_, cond, false≢true}
+use mathlib.Core.Path.{_≡_, refl, sym, ap, _∙_}
+use mathlib.Core.Bool.{Bool, true, false, not, _&&_, _||_, cond, false≢true}
 use mathlib.Core.List.{List, [], _∷_}
 use mathlib.Core.Logic.{inl, inr}
 use mathlib.Core.Option.{Option, none, some}
 use native.Mathlib.Omega.{arith}
 use lib.ListN.{length}
-use lib.Dec.{eqb}
-use borrow.Author.Tests.{eqb-true, eqb-false}
+use lib.Dec.{leb, eqb}
+use borrow.Author.Tests.{leb-true, leb-false, eqb-true, eqb-false}
 use types.Run.{OneOf}
 use Rattle.machine.specs.Lists.{all, any, nth}
 use Rattle.machine.specs.Answer.{Result, ok, refused}
 use Rattle.machine.specs.Text.{packedText}
 use Rattle.machine.specs.Query.{Parameter, unused, number, text, float, element, goodParameter, Code, codes, codeAt, nodeOf}
 use Rattle.machine.specs.declared.Node.{Node}
-use Rattle.machine.specs.declared.Node.the-variants.{Not, Known}
+use Rattle.machine.specs.declared.Node.the-variants.{Single, Binary, Not, Known}
 use Rattle.machine.specs.declared.Refusal.{Refusal}
 use Rattle.machine.specs.declared.Refusal.the-variants.{TreeNode}
 use Rattle.laws.specs.Lists.{and-both}
-use Rattle.search.specs.Nodes.{made, nodeFor, fits, goodNode}
+use Rattle.elements.specs.Element.{elementOf}
+use Rattle.elements.specs.declared.MaybeElement.{MaybeElement}
+use Rattle.elements.specs.declared.MaybeElement.the-variants.{Is, NotOne}
+use Rattle.search.specs.Nodes.{made, nodeFor, sortOf, sorted, sortFor, fits, goodNode}
+use Rattle.search.specs.declared.Sort as Sort
 use Rattle.terms.proofs.Terms.{cases, each-key}
 
 -- ---- codes in a range, and codes that are none of the keys passed
@@ -82,18 +86,93 @@ no-code (suc c) h = beyond codes c (omega arith)
 pub node-is : (p q : ℕ) {code k : ℕ} → code ≡ k → nodeFor k p q ≡ nodeFor code p q
 node-is p q e = sym (ap (λ (j : ℕ). nodeFor j p q) e)
 
-module _ (c p q : ℕ) where
-  pub node-known : 26 < c → c < 29 → Known (eqb c 28) ≡ nodeFor c p q
-  unfolding nodeFor codes
-  node-known l h = go (eqb c 28) refl
-    where
-      go : (b : Bool) → eqb c 28 ≡ b → Known b ≡ nodeFor c p q
-      go true e = node-is p q (eqb-true c 28 e)
-      go false e = let d = eqb-false c 28 e in node-is p q {code = c} {k = 27} (omega arith)
+-- ---- the sorts of codes
 
-  pub node-none : 28 < c → Not ≡ nodeFor c p q
-  unfolding nodeFor
-  node-none h = rw (no-code c h)
+-- the sort at a code that is known
+pub sort-is : (p q : ℕ) {code k : ℕ} → code ≡ k → sortFor k p q ≡ sortFor code p q
+sort-is p q e = sym (ap (λ (j : ℕ). sortFor j p q) e)
+
+abbrev pub isSingle : Sort.Sort → Bool
+isSingle Sort.the-variants.Single = true
+isSingle (Sort.the-variants.Binary o) = false
+isSingle Sort.the-variants.Not = false
+isSingle (Sort.the-variants.Known b) = false
+isSingle Sort.the-variants.Refused = false
+
+single-is : (s : Sort.Sort) → isSingle s ≡ true → Sort.the-variants.Single ≡ s
+single-is Sort.the-variants.Single h = refl
+single-is (Sort.the-variants.Binary o) h = absurd (false≢true h)
+single-is Sort.the-variants.Not h = absurd (false≢true h)
+single-is (Sort.the-variants.Known b) h = absurd (false≢true h)
+single-is Sort.the-variants.Refused h = absurd (false≢true h)
+
+abbrev pub hasNode : Sort.Sort → Bool
+hasNode Sort.the-variants.Single = true
+hasNode (Sort.the-variants.Binary o) = true
+hasNode Sort.the-variants.Not = true
+hasNode (Sort.the-variants.Known b) = true
+hasNode Sort.the-variants.Refused = false
+
+-- the node that a sort leaves: its own where it says all
+abbrev pub nodeAs : Sort.Sort → Node → Node
+nodeAs Sort.the-variants.Single n = n
+nodeAs (Sort.the-variants.Binary o) n = Binary o
+nodeAs Sort.the-variants.Not n = Not
+nodeAs (Sort.the-variants.Known b) n = Known b
+nodeAs Sort.the-variants.Refused n = Known false
+
+made-as : (o : Option Code) (p q : ℕ) → made o p q ≡ nodeAs (sorted o p q) (made o p q)
+made-as none p q = refl
+made-as (some k) p q = go (k .node p q)
+  where
+    go : (n : Node) → n ≡ nodeAs (sortOf n) n
+    go (Single t) = refl
+    go (Binary o) = refl
+    go Not = refl
+    go (Known b) = refl
+
+module _ (c p q : ℕ) where
+  pub sort-single : 1 ≤ c → c ≤ 22 → Sort.the-variants.Single ≡ sortFor c p q
+  unfolding sortFor codes
+  sort-single l h = single-is (sortFor c p q) (each-in (λ (j : ℕ). isSingle (sortFor j p q)) 1 22 c refl l (omega arith))
+
+  pub sort-known : 26 < c → c < 29 → Sort.the-variants.Known (eqb c 28) ≡ sortFor c p q
+  unfolding sortFor codes
+  sort-known l h = go (eqb c 28) refl
+    where
+      go : (b : Bool) → eqb c 28 ≡ b → Sort.the-variants.Known b ≡ sortFor c p q
+      go true e = sort-is p q (eqb-true c 28 e)
+      go false e = let d = eqb-false c 28 e in sort-is p q {code = c} {k = 27} (omega arith)
+
+  pub sort-none : 28 < c → Sort.the-variants.Refused ≡ sortFor c p q
+  unfolding sortFor
+  sort-none h = rw (no-code c h)
+
+  -- the node of a code whose sort is known, and the codes that have a node, or a term's
+  module _ (s : Sort.Sort) (e : s ≡ sortFor c p q) where
+    pub node-as : nodeFor c p q ≡ nodeAs s (nodeFor c p q)
+    unfolding sortFor nodeFor
+    node-as = rw e (made-as (codeAt c) p q)
+
+    pub has-node : hasNode s ≡ true → (1 ≤ c) × (c ≤ 28)
+    unfolding sortFor
+    has-node h = (low (leb 1 c) refl, high (leb c 28) refl)
+      where
+        low : (b : Bool) → leb 1 c ≡ b → 1 ≤ c
+        low true g = leb-true 1 c g
+        low false g = let m = leb-false 1 c g in let z : c ≡ 0 = omega arith in absurd (false≢true (sym (ap hasNode (e ∙ ap (λ (j : ℕ). sorted (codeAt j) p q) z)) ∙ h))
+
+        high : (b : Bool) → leb c 28 ≡ b → c ≤ 28
+        high true g = leb-true c 28 g
+        high false g = let m = leb-false c 28 g in absurd (false≢true (sym (ap hasNode (e ∙ ap (λ (o : Option Code). sorted o p q) (no-code c m))) ∙ h))
+
+  pub has-term : Sort.the-variants.Single ≡ sortFor c p q → (1 ≤ c) × (c ≤ 22)
+  unfolding sortFor codes
+  has-term e = let r = has-node Sort.the-variants.Single e refl in (r .0, high (leb c 22) refl (r .1))
+    where
+      high : (b : Bool) → leb c 22 ≡ b → c ≤ 28 → c ≤ 22
+      high true g r = leb-true c 22 g
+      high false g r = let m = leb-false c 22 g in absurd (false≢true (ap (λ (x : Sort.Sort). not (isSingle x)) e ∙ each-in (λ (j : ℕ). not (isSingle (sortFor j p q))) 23 6 c refl (omega arith) (omega arith)))
 
 -- ---- good parameters: the codes of an arm have parameters of one sort
 
@@ -114,6 +193,19 @@ good-sort number w = refl
 good-sort text w = refl
 good-sort float w = refl
 good-sort element w = refl
+
+-- what `from_number` makes of a parameter says whether it is good
+abbrev isOne : MaybeElement → Bool
+isOne (Is e) = true
+isOne NotOne = false
+
+pub element-good : (w : ℕ) (m : MaybeElement) → m ≡ elementOf w → goodParameter element w ≡ isOne m
+unfolding elementOf
+element-good w m e = sym (ap isOne e ∙ go (goodParameter element w))
+  where
+    go : (b : Bool) → isOne (cond b (Is (record { number = w })) NotOne) ≡ b
+    go true = refl
+    go false = refl
 
 abbrev sortsAre : ℕ → ℕ → Option Code → Bool
 sortsAre a b none = false
@@ -148,13 +240,20 @@ module _ (p q c : ℕ) where
         go true e g = absurd (false≢true (sym e))
         go false e g = g
 
-  pub bad-low : c < 1 → false ≡ goodNode c p q
-  unfolding goodNode
-  bad-low h = let e : c ≡ 0 = omega arith in rw e
+-- a code that has no node has no good parameters
+pub bad-sort : (c p q : ℕ) → Sort.the-variants.Refused ≡ sortFor c p q → goodNode c p q ≡ false
+unfolding sortFor goodNode
+bad-sort c p q e = go (codeAt c) e
+  where
+    has : (n : Node) → hasNode (sortOf n) ≡ true
+    has (Single t) = refl
+    has (Binary o) = refl
+    has Not = refl
+    has (Known b) = refl
 
-  pub bad-high : 28 < c → false ≡ goodNode c p q
-  unfolding goodNode
-  bad-high h = rw (no-code c h)
+    go : (o : Option Code) → Sort.the-variants.Refused ≡ sorted o p q → fits o p q ≡ false
+    go none h = refl
+    go (some k) h = absurd (false≢true (ap hasNode h ∙ has (k .node p q)))
 
 -- ---- a node that is tested
 

@@ -20,11 +20,12 @@ use Rattle.machine.specs.declared.Node.{Node}
 use Rattle.machine.specs.declared.Node.the-variants.{Single, Binary, Not, Known}
 use Rattle.machine.specs.declared.Refusal.the-variants.{TreeShape}
 use Rattle.laws.specs.Trees.{run-append, run-one, accepted}
-use Rattle.search.specs.Nodes.{nodeFor, nodesIn, checked}
+use Rattle.search.specs.Nodes.{nodeFor, sortFor, nodesIn, checked}
 use Rattle.search.specs.Value.{push, hasOperand, stackOf, Operand, Evaluated}
+use Rattle.search.specs.declared.Sort.{Sort}
 use Rattle.search.specs.declared.Part.{Part}
 use Rattle.search.specs.declared.CheckedTree.the-variants.{Good}
-use Rattle.search.proofs.Nodes.{node-only}
+use Rattle.search.proofs.Nodes.{nodeAs, node-as, node-only}
 
 -- ---- the last node
 
@@ -38,6 +39,10 @@ nodesIn-append (x ∷ y ∷ z ∷ a) b h = ap (λ (l : List Node). nodeFor x y z
 -- the node that starts at word i
 abbrev pub nodeOn : List ℕ → ℕ → Node
 nodeOn t i = nodeFor (getD t i 0) (getD t (i + 1) 0) (getD t (i + 2) 0)
+
+-- by the sort of its code
+pub on-sort : (t : List ℕ) (i : ℕ) (s : Sort) {r : Sort} → ((p q : ℕ) → r ≡ sortFor (getD t i 0) p q) → r ≡ s → nodeOn t i ≡ nodeAs s (nodeOn t i)
+on-sort t i s f e = node-as (getD t i 0) (getD t (i + 1) 0) (getD t (i + 2) 0) s (sym e ∙ f (getD t (i + 1) 0) (getD t (i + 2) 0))
 
 last-three : (t : List ℕ) (i : ℕ) → i + 3 ≡ length t → drop i t ≡ getD t i 0 ∷ getD t (i + 1) 0 ∷ getD t (i + 2) 0 ∷ []
 last-three t i h =
@@ -137,12 +142,12 @@ module _ (v : Term → Tri) (t : List ℕ) where
           top = by-node e ∙ push-then (v x) (stackOf v (take i t)) ∙ ap (λ (y : Tri). push y (stackOf v (take i t))) (sym q);
         }
 
-    pub constant : {b : Bool} {a : Tri} → nodeOn t i ≡ Known b → a ≡ decided b → Evaluated v t (record { value = a; start = i })
-    constant {b} {a} e q =
+    pub constant : {b : Bool} → nodeOn t i ≡ Known b → Evaluated v t (record { value = decided b; start = i })
+    constant {b} e =
         record {
           before = omega (arith, end);
           threes = whole;
-          top = by-node e ∙ push-then (decided b) (stackOf v (take i t)) ∙ ap (λ (y : Tri). push y (stackOf v (take i t))) (sym q);
+          top = by-node e ∙ push-then (decided b) (stackOf v (take i t));
         }
 
     -- an operand before it

@@ -1,20 +1,22 @@
 // Queries, after pdbtbx's search.rs (document 01, "Trees and find"): a tree's nodes, its check, and its value at a place.
 use elements::Element;
-use machine::Node;
+use elements::MaybeElement;
 use machine::Ops;
+use machine::Record;
 use machine::RecordNumbers;
 use machine::Refusal;
 use machine::Term;
 use machine::Tri;
 ghost use mathlib.Core.Path.{_≡_};
-ghost use Prim.Native.Nat.{_%_, _≤_, _<_};
+ghost use mathlib.Core.Bool.{cond};
+ghost use Prim.Native.Nat.{ℕ, _%_, _≤_, _<_};
 ghost use lib.ListN.{length};
 ghost use Rattle.machine.specs.Kleene as Kleene;
 ghost use Rattle.machine.specs.Query as Query;
 ghost use Rattle.machine.specs.declared.Node.the-variants.{Single};
 ghost use Rattle.terms.specs.Levels.{valueAt, numbersIn, Inside};
 ghost use Rattle.search.specs.Nodes as Nodes;
-ghost use Rattle.search.specs.Nodes.{kindFor, lowestFrom, nodeFor, goodNode, leftBy, deeperBy, depthOf, maybeDepth, checked};
+ghost use Rattle.search.specs.Nodes.{kindFor, lowestFrom, nodeFor, sortFor, goodNode, leftBy, deeperBy, depthOf, maybeDepth, checked};
 ghost use Rattle.search.specs.Value.{Operand, Evaluated};
 ghost use Rattle.search.specs.declared.MaybeDepth.the-variants as MaybeDepth;
 ghost use Rattle.search.specs.declared.CheckedTree.the-variants.{Good};
@@ -25,6 +27,36 @@ pub enum CheckedTree {
 }
 
 // ---- nodes
+
+// What sort of node a code has, or that it has none.
+enum Sort {
+    Single,
+    Binary(Ops),
+    Not,
+    Known(bool),
+    Refused,
+}
+
+// "Node codes are sorted into terms, operators and constants by range"; no other code has a node.
+fn sort_of(code: u64) -> Sort
+    ensures { λ r. ⌜ ((p q : ℕ) → r ≡ sortFor code p q) ⌝ }
+{
+    match code {
+        1..=22 => Sort::Single,
+        23..=25 => {
+            if code == 23 {
+                Sort::Binary(Ops::And)
+            } else if code == 24 {
+                Sort::Binary(Ops::Or)
+            } else {
+                Sort::Binary(Ops::Xor)
+            }
+        }
+        26 => Sort::Not,
+        27..=28 => Sort::Known(code == 28),
+        _ => Sort::Refused,
+    }
+}
 
 // The term of a code from 1 to 22.
 fn term_of(code: u64, p: u64, q: u64) -> Term
@@ -57,29 +89,9 @@ fn term_of(code: u64, p: u64, q: u64) -> Term
     }
 }
 
-// "Node codes are sorted into terms, operators and constants by range." The parameters are not tested here.
-fn node_of(code: u64, p: u64, q: u64) -> Node
-    ensures { λ r. ⌜ r ≡ nodeFor code p q ⌝ }
-{
-    match code {
-        1..=22 => Node::Single(term_of(code, p, q)),
-        23..=25 => {
-            if code == 23 {
-                Node::Binary(Ops::And)
-            } else if code == 24 {
-                Node::Binary(Ops::Or)
-            } else {
-                Node::Binary(Ops::Xor)
-            }
-        }
-        26 => Node::Not,
-        27..=28 => Node::Known(code == 28),
-        _ => Node::Not,
-    }
-}
-
-// "unused ones are 0", texts are packed, elements are 1..118; no code but 1 to 28 has a node
-fn good_node(code: u64, p: u64, q: u64) -> bool
+// "unused ones are 0", texts are packed, elements are 1..118
+fn good_parameters(code: u64, p: u64, q: u64) -> bool
+    requires { ⌜ (1 ≤ code) × (code ≤ 28) ⌝ }
     ensures { λ r. ⌜ r ≡ goodNode code p q ⌝ }
 {
     match code {
@@ -88,9 +100,14 @@ fn good_node(code: u64, p: u64, q: u64) -> bool
         3 | 7 | 9 | 10 | 14 => helper::packed_text(p) & (q == 0),
         4 | 11 => helper::packed_text(p) & helper::packed_text(q),
         8 => helper::packed_text(q),
-        15 => Element::is_element(p) & (q == 0),
-        20..=28 => (p == 0) & (q == 0),
-        _ => false,
+        15 => {
+            let found = Element::from_number(p);
+            match found {
+                MaybeElement::Is(_) => q == 0,
+                MaybeElement::NotOne => false,
+            }
+        }
+        _ => (p == 0) & (q == 0),
     }
 }
 
@@ -113,21 +130,29 @@ fn left_by(least: usize, d: usize) -> MaybeDepth
     }
 }
 
-// The same by the range of a node's code, or its refusal.
+// The same for a code that has a node, or the refusal of its parameters.
+fn deeper(least: usize, code: u64, p: u64, q: u64, d: usize) -> MaybeDepth
+    requires { ⌜ (1 ≤ code) × (code ≤ 28) × (d < 1000) ⌝ }
+    ensures { λ r. ⌜ r ≡ cond (goodNode code p q) (MaybeDepth.Is (leftBy least d)) MaybeDepth.Refused ⌝ }
+{
+    if good_parameters(code, p, q) {
+        return left_by(least, d);
+    }
+    MaybeDepth::Refused
+}
+
+// The same for any code: a term and a constant take no operand, an operator two, Not one.
 fn deeper_by(code: u64, p: u64, q: u64, d: usize) -> MaybeDepth
     requires { ⌜ d < 1000 ⌝ }
     ensures { λ r. ⌜ r ≡ maybeDepth (deeperBy code p q d) ⌝ }
 {
-    if good_node(code, p, q) {
-        match code {
-            1..=22 => left_by(1, d),
-            23..=25 => left_by(3, d),
-            26 => left_by(2, d),
-            27..=28 => left_by(1, d),
-            _ => MaybeDepth::Refused,
-        }
-    } else {
-        MaybeDepth::Refused
+    let sort = sort_of(code);
+    match sort {
+        Sort::Single => deeper(1, code, p, q, d),
+        Sort::Binary(_) => deeper(3, code, p, q, d),
+        Sort::Not => deeper(2, code, p, q, d),
+        Sort::Known(_) => deeper(1, code, p, q, d),
+        Sort::Refused => MaybeDepth::Refused,
     }
 }
 
@@ -177,32 +202,32 @@ pub fn check_tree(tree: &[u64]) -> CheckedTree
 // By code: the kind that a term asks for, the lesser where it asks for two. An operator asks nothing; a constant may decide.
 const KINDS: [u64; 29] = [
     0, // no code
-    1, // ModelSerialNumber
-    1, // ModelSerialNumberRange
-    2, // ChainId
-    2, // ChainIdRange
-    3, // ResidueSerialNumber
-    3, // ResidueSerialNumberRange
-    3, // ResidueInsertionCode
-    3, // ResidueId
-    4, // ConformerName
-    4, // ConformerAlternativeLocation
-    4, // ConformerId
-    5, // AtomSerialNumber
-    5, // AtomSerialNumberRange
-    5, // AtomName
-    5, // Element
-    5, // BFactor
-    5, // BFactorRange
-    5, // Occupancy
-    5, // OccupancyRange
-    4, // Backbone
-    4, // SideChain
-    5, // Hetero
-    5, // And
-    5, // Or
-    5, // Xor
-    5, // Not
+    Record::MODEL, // ModelSerialNumber
+    Record::MODEL, // ModelSerialNumberRange
+    Record::CHAIN, // ChainId
+    Record::CHAIN, // ChainIdRange
+    Record::RESIDUE, // ResidueSerialNumber
+    Record::RESIDUE, // ResidueSerialNumberRange
+    Record::RESIDUE, // ResidueInsertionCode
+    Record::RESIDUE, // ResidueId
+    Record::CONFORMER, // ConformerName
+    Record::CONFORMER, // ConformerAlternativeLocation
+    Record::CONFORMER, // ConformerId
+    Record::ATOM, // AtomSerialNumber
+    Record::ATOM, // AtomSerialNumberRange
+    Record::ATOM, // AtomName
+    Record::ATOM, // Element
+    Record::ATOM, // BFactor
+    Record::ATOM, // BFactorRange
+    Record::ATOM, // Occupancy
+    Record::ATOM, // OccupancyRange
+    Record::CONFORMER, // Backbone
+    Record::CONFORMER, // SideChain
+    Record::ATOM, // Hetero
+    Record::ATOM, // And
+    Record::ATOM, // Or
+    Record::ATOM, // Xor
+    Record::ATOM, // Not
     0, // known false
     0, // known true
 ];
@@ -227,7 +252,7 @@ fn lesser(a: u64, b: u64) -> u64
 pub fn lowest_kind(tree: &[u64]) -> u64
     ensures { λ r. ⌜ r ≡ lowestFrom 5 (now (tree .entry)) ⌝ }
 {
-    let mut lowest: u64 = 5;
+    let mut lowest: u64 = Record::ATOM;
     let mut i: usize = 0;
     while i < tree.len() {
         lowest = lesser(kind_for(tree[i]), lowest);
@@ -242,6 +267,14 @@ pub fn lowest_kind(tree: &[u64]) -> u64
 struct Part {
     value: Tri,
     start: usize,
+}
+
+// The operand that a constant is.
+fn constant(b: bool, start: usize) -> Part
+    ensures { λ r. ⌜ r ≡ record { value = Kleene.decided b; start = start } ⌝ }
+{
+    let v = terms::decided(b);
+    Part { value: v, start }
 }
 
 // The operand that a Not makes of another.
@@ -303,21 +336,22 @@ fn evaluate(
     ensures { λ r. ⌜ Evaluated (valueAt (now (words .entry)) (numbersIn (now (place .entry))) low high (now (residues .entry)) (now (atoms .entry))) (now (tree .entry)) r ⌝ }
 {
     let i = tree.len() - 3;
-    let n = node_of(tree[i], tree[i + 1], tree[i + 2]);
-    match n {
-        Node::Single(t) => {
+    let code = tree[i];
+    let sort = sort_of(code);
+    match sort {
+        Sort::Single => {
+            let t = term_of(code, tree[i + 1], tree[i + 2]);
             let v = terms::term_value(t, words, numbers(place), low, high, residues, atoms);
             Part { value: v, start: i }
         }
-        Node::Known(b) => {
-            let v = terms::decided(b);
-            Part { value: v, start: i }
-        }
-        Node::Not => {
+        Sort::Known(b) => constant(b, i),
+        // A tree that was checked has no such node, but each arm of a match has a value.
+        Sort::Refused => constant(false, i),
+        Sort::Not => {
             let a = evaluate(&tree[..i], anew(words), place, low, high, residues, atoms);
             negation(a)
         }
-        Node::Binary(o) => {
+        Sort::Binary(o) => {
             let b = evaluate(&tree[..i], anew(words), place, low, high, residues, atoms);
             let m = b.start;
             let a = evaluate(&tree[..m], anew(words), place, low, high, residues, atoms);

@@ -4,33 +4,7 @@ ghost use Prim.Native.Nat.{_+_, _*_, _≤_};
 ghost use lib.ListN.{length};
 ghost use Rattle.machine.specs.Store.{records};
 ghost use Rattle.seek.specs.Seek.{Good, Within, held, between, run, childStart, childSpan, atomRecords, span, startOf, spanOf};
-
-// A record with its width in words and its kinds.
-pub struct Record {
-    pub number: usize,
-}
-
-impl Record {
-    pub const WIDTH: usize = 12;
-
-    pub const MODEL: u64 = 1;
-
-    pub const CHAIN: u64 = 2;
-
-    pub const RESIDUE: u64 = 3;
-
-    pub const CONFORMER: u64 = 4;
-
-    pub const ATOM: u64 = 5;
-
-    // The index of its first word.
-    pub fn word(self) -> usize
-        requires { ⌜ self .number ≤ 100000 ⌝ }
-        ensures { λ r. ⌜ r ≡ self .number * 12 ⌝ }
-    {
-        self.number * Record::WIDTH
-    }
-}
+use machine::Record;
 
 // The number of a record, and the number after that of its last descendant.
 pub enum Span {

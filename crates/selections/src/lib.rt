@@ -1,9 +1,9 @@
 // Atoms that a tree picks out of a model, to be removed (document 01, "Edits").
 use machine::Edited;
+use machine::Record;
 use machine::Refusal;
 use machine::Tri;
 use search::CheckedTree;
-use seek::Record;
 use seek::Span;
 ghost use mathlib.Core.Path.{_≡_};
 ghost use mathlib.Core.Bool.{not};

@@ -9,8 +9,10 @@ ghost use Rattle.machine.specs.Answer.{openedNumbers};
 ghost use Rattle.machine.specs.Record.{kind, finite, fieldsOf, goodRecord, readOut};
 ghost use Rattle.machine.specs.Store.{chunks, readStore, openRun};
 ghost use Rattle.store.specs.Store.{checkedBy, counted, trailingAtoms};
+use elements::Element;
 use machine::AtomRec;
 use machine::Opened;
+use machine::Record;
 use machine::Refusal;
 
 // How many atoms a store holds, or why it isn't one.
@@ -40,11 +42,11 @@ fn finite_words(r: &[u64]) -> bool
     requires { ⌜ length (now r) ≡ 12 ⌝ }
     ensures { λ b. ⌜ b ≡ all finite (take 5 (drop 3 (now (r .entry)))) ⌝ }
 {
-    floats::is_finite(r[3])
-        & floats::is_finite(r[4])
-        & floats::is_finite(r[5])
-        & floats::is_finite(r[6])
-        & floats::is_finite(r[7])
+    floats::is_finite(r[Record::X])
+        & floats::is_finite(r[Record::Y])
+        & floats::is_finite(r[Record::Z])
+        & floats::is_finite(r[Record::OCCUPANCY])
+        & floats::is_finite(r[Record::B_FACTOR])
 }
 
 // An atom's record. Element is 1 to 118 or 0, hetero 0 or 1, and word 11 is not named. The name is tested before the other words
@@ -53,8 +55,13 @@ fn good_atom(r: &[u64]) -> bool
     requires { ⌜ length (now r) ≡ 12 ⌝ }
     ensures { λ b. ⌜ b ≡ goodRecord 0 (now (r .entry)) ⌝ }
 {
-    let named = helper::stored_atom_name(r[2]);
-    (r[0] == 5) & (r[11] == 0) & named & finite_words(r) & (r[8] <= 118) & (r[10] <= 1)
+    let named = helper::stored_atom_name(r[Record::ATOM_NAME]);
+    (r[Record::KIND] == Record::ATOM)
+        & (r[11] == 0)
+        & named
+        & finite_words(r)
+        & Element::is_stored(r[Record::ELEMENT])
+        & (r[Record::HETERO] <= 1)
 }
 
 // Where the good atoms that stand last before word `to` begin. Nearly all records are passed here.
@@ -64,8 +71,8 @@ fn atoms_start(store: &[u64], to: usize) -> usize
 {
     let mut at = to;
     while 0 < at {
-        if good_atom(&store[at - 12..at]) {
-            at -= 12;
+        if good_atom(&store[at - Record::WIDTH..at]) {
+            at -= Record::WIDTH;
         } else {
             return at;
         }
@@ -80,7 +87,7 @@ fn following(next: u64, run: usize) -> u64
     if run == 0 {
         return next;
     }
-    5
+    Record::ATOM
 }
 
 // Whether twelve words are a good record of the kind that word 0 gives, above the atoms.
@@ -88,11 +95,19 @@ fn good_record(r: &[u64]) -> bool
     requires { ⌜ (length (now r) ≡ 12) × (kind (now r) ≤ 4) ⌝ }
     ensures { λ b. ⌜ b ≡ goodRecord (5 - kind (now (r .entry))) (now (r .entry)) ⌝ }
 {
-    match r[0] {
-        4 => unnamed_zero(r) & helper::stored_name(r[1]) & helper::stored_location(r[2]),
-        3 => unnamed_zero(r) & helper::stored_code(r[2]),
-        2 => (r[2] == 0) & unnamed_zero(r) & helper::stored_chain_id(r[1]),
-        1 => (r[2] == 0) & unnamed_zero(r),
+    match r[Record::KIND] {
+        Record::CONFORMER => {
+            unnamed_zero(r)
+                & helper::stored_name(r[Record::CONFORMER_NAME])
+                & helper::stored_location(r[Record::LOCATION])
+        }
+        Record::RESIDUE => unnamed_zero(r) & helper::stored_code(r[Record::CODE]),
+        Record::CHAIN => {
+            (r[Record::SECOND] == 0)
+                & unnamed_zero(r)
+                & helper::stored_chain_id(r[Record::CHAIN_ID])
+        }
+        Record::MODEL => (r[Record::SECOND] == 0) & unnamed_zero(r),
         _ => false,
     }
 }
@@ -111,22 +126,22 @@ fn check_records(store: &[u64], end: usize) -> Checked
         if from == 0 {
             return Checked::Refused(Refusal::BrokenLayout);
         }
-        let k = store[from - 12];
-        if 4 < k {
+        let k = store[from - Record::WIDTH];
+        if Record::CONFORMER < k {
             return Checked::Refused(Refusal::BrokenLayout);
         }
         if k + 1 < following(next, at - from) {
             return Checked::Refused(Refusal::BrokenLayout);
         }
-        if good_record(&store[from - 12..from]) {
-            atoms += ((at - from) / 12) as u64;
+        if good_record(&store[from - Record::WIDTH..from]) {
+            atoms += ((at - from) / Record::WIDTH) as u64;
             next = k;
-            at = from - 12;
+            at = from - Record::WIDTH;
         } else {
             return Checked::Refused(Refusal::BrokenLayout);
         }
     }
-    if 1 < next {
+    if Record::MODEL < next {
         return Checked::Refused(Refusal::BrokenLayout);
     }
     Checked::Good(atoms)
@@ -162,7 +177,7 @@ pub fn check(store: &[u64]) -> Checked
     if last < end {
         return Checked::Refused(Refusal::BrokenLayout);
     }
-    if end % 12 != 0 {
+    if end % Record::WIDTH != 0 {
         return Checked::Refused(Refusal::BrokenLayout);
     }
     if all_zero(&store[end..last]) {
@@ -192,18 +207,18 @@ pub fn read_atom(store: &[u64], record: usize) -> AtomRec
     requires { ⌜ («record» + 1) * 12 ≤ length (now store) ⌝ }
     ensures { λ r. ⌜ r ≡ readOut (fieldsOf zero (take 12 (drop («record» * 12) (now (store .entry))))) ⌝ }
 {
-    let at = record * 12;
-    let r = &store[at..at + 12];
+    let at = record * Record::WIDTH;
+    let r = &store[at..at + Record::WIDTH];
     AtomRec {
-        serial: r[1],
-        name: r[2],
-        x: floats::float_of(r[3]),
-        y: floats::float_of(r[4]),
-        z: floats::float_of(r[5]),
-        occupancy: floats::float_of(r[6]),
-        b_factor: floats::float_of(r[7]),
-        element: r[8],
-        charge: floats::int_of(r[9]),
-        hetero: r[10] == 1,
+        serial: r[Record::SERIAL],
+        name: r[Record::ATOM_NAME],
+        x: floats::float_of(r[Record::X]),
+        y: floats::float_of(r[Record::Y]),
+        z: floats::float_of(r[Record::Z]),
+        occupancy: floats::float_of(r[Record::OCCUPANCY]),
+        b_factor: floats::float_of(r[Record::B_FACTOR]),
+        element: r[Record::ELEMENT],
+        charge: floats::int_of(r[Record::CHARGE]),
+        hetero: r[Record::HETERO] == 1,
     }
 }

@@ -1,5 +1,7 @@
 // Terms, after pdbtbx's search.rs (document 01, "Trees and find"): Kleene's tables, and a term's value at its level and at a place.
+use machine::AtomRec;
 use machine::Ops;
+use machine::Record;
 use machine::RecordNumbers;
 use machine::Term;
 use machine::Tri;
@@ -11,7 +13,7 @@ ghost use Prim.Native.Nat.{ℕ, _+_, _*_, _≤_, _<_};
 ghost use lib.ListN.{length, getD};
 ghost use lib.Dec.{eqb};
 ghost use Rattle.machine.specs.Kleene as Kleene;
-ghost use Rattle.machine.specs.Record.{fieldsOf};
+ghost use Rattle.machine.specs.Record.{Atom, fieldsOf, readOut};
 ghost use Rattle.machine.specs.Query as Query;
 ghost use Rattle.machine.specs.declared.Tri.the-variants.{False, Undecided};
 ghost use Rattle.terms.specs.Levels.{atModel, atChain, atResidue, atConformer, atAtom, recordAt, valueAt, narrow, Inside};
@@ -171,52 +173,34 @@ fn element_is(element: u64, n: u64) -> Tri
     }
 }
 
-// The twelve words of the atom's record are given, and those read that the term asks for.
-pub fn optional_matches_atom(t: Term, atom: &[u64], atoms: &[u64]) -> Tri
-    requires { ⌜ length (now atom) ≡ 12 ⌝ }
-    ensures { λ r. ⌜ ((others : List ℕ) → r ≡ Query.termValue (record { residues = others; atoms = now (atoms .entry) }) (atAtom (some (fieldsOf 0 (now (atom .entry))))) t) ⌝ }
+// The atom is given as it is read out of its record.
+pub fn optional_matches_atom(t: Term, atom: AtomRec, atoms: &[u64]) -> Tri
+    ensures { λ r. ⌜ ((a : Atom) → atom ≡ readOut a → (others : List ℕ) → r ≡ Query.termValue (record { residues = others; atoms = now (atoms .entry) }) (atAtom (some a)) t) ⌝ }
 {
     match t {
-        Term::AtomSerialNumber(n) => decided(atom[1] == n),
-        Term::AtomSerialNumberRange(low, high) => decided(between(low, high, atom[1])),
-        Term::AtomName(n) => decided(atom[2] == n),
-        Term::Element(n) => element_is(atom[8], n),
-        Term::BFactor(x) => decided(floats::close(floats::float_of(atom[7]), x)),
-        Term::BFactorRange(low, high) => decided(between_floats(
-            low,
-            high,
-            floats::float_of(atom[7]),
-        )),
-        Term::Occupancy(x) => decided(floats::close(floats::float_of(atom[6]), x)),
-        Term::OccupancyRange(low, high) => decided(between_floats(
-            low,
-            high,
-            floats::float_of(atom[6]),
-        )),
-        Term::Backbone => decided(reference_tables::contains(atoms, atom[2])),
-        Term::SideChain => decided(!reference_tables::contains(atoms, atom[2])),
-        Term::Hetero => decided(atom[10] == 1),
+        Term::AtomSerialNumber(n) => decided(atom.serial == n),
+        Term::AtomSerialNumberRange(low, high) => decided(between(low, high, atom.serial)),
+        Term::AtomName(n) => decided(atom.name == n),
+        Term::Element(n) => element_is(atom.element, n),
+        Term::BFactor(x) => decided(floats::close(atom.b_factor, x)),
+        Term::BFactorRange(low, high) => decided(between_floats(low, high, atom.b_factor)),
+        Term::Occupancy(x) => decided(floats::close(atom.occupancy, x)),
+        Term::OccupancyRange(low, high) => decided(between_floats(low, high, atom.occupancy)),
+        Term::Backbone => decided(reference_tables::contains(atoms, atom.name)),
+        Term::SideChain => decided(!reference_tables::contains(atoms, atom.name)),
+        Term::Hetero => decided(atom.hetero),
         _ => Tri::Undecided,
     }
 }
 
 // ---- a term's value at a place
 
-// The twelve words of a record, and one of them.
-fn record_at(words: &[u64], number: u64) -> &[u64]
-    requires { ⌜ number * 12 + 12 ≤ length (now words) ⌝ }
-    ensures { λ r. ⌜ now r ≡ recordAt (now (words .entry)) number ⌝ }
-{
-    let at = number as usize * 12;
-    let end = at + 12;
-    &words[at..end]
-}
-
+// One of the twelve words of a record.
 fn word(words: &[u64], number: u64, k: usize) -> u64
     requires { ⌜ (number * 12 + 12 ≤ length (now words)) × (k < 12) ⌝ }
     ensures { λ r. ⌜ r ≡ getD (recordAt (now (words .entry)) number) k 0 ⌝ }
 {
-    words[number as usize * 12 + k]
+    words[number as usize * Record::WIDTH + k]
 }
 
 // The term's value where the record of one level alone is known, or where nothing is.
@@ -225,7 +209,7 @@ fn model_value(t: Term, words: &[u64], number: u64, known: bool) -> Tri
     ensures { λ r. ⌜ ((names : Query.Names) → r ≡ Query.termValue names (atModel (Query.onlyIf known (some (fieldsOf 4 (recordAt (now (words .entry)) number))))) t) ⌝ }
 {
     if known {
-        optional_matches_model(t, word(words, number, 1))
+        optional_matches_model(t, word(words, number, Record::SERIAL))
     } else {
         Tri::Undecided
     }
@@ -236,7 +220,7 @@ fn chain_value(t: Term, words: &[u64], number: u64, known: bool) -> Tri
     ensures { λ r. ⌜ ((names : Query.Names) → r ≡ Query.termValue names (atChain (Query.onlyIf known (some (fieldsOf 3 (recordAt (now (words .entry)) number))))) t) ⌝ }
 {
     if known {
-        optional_matches_chain(t, word(words, number, 1))
+        optional_matches_chain(t, word(words, number, Record::CHAIN_ID))
     } else {
         Tri::Undecided
     }
@@ -247,7 +231,9 @@ fn residue_value(t: Term, words: &[u64], number: u64, known: bool) -> Tri
     ensures { λ r. ⌜ ((names : Query.Names) → r ≡ Query.termValue names (atResidue (Query.onlyIf known (some (fieldsOf 2 (recordAt (now (words .entry)) number))))) t) ⌝ }
 {
     if known {
-        optional_matches_residue(t, word(words, number, 1), word(words, number, 2))
+        let serial = word(words, number, Record::SERIAL);
+        let code = word(words, number, Record::CODE);
+        optional_matches_residue(t, serial, code)
     } else {
         Tri::Undecided
     }
@@ -258,7 +244,9 @@ fn conformer_value(t: Term, words: &[u64], number: u64, known: bool, residues: &
     ensures { λ r. ⌜ ((others : List ℕ) → r ≡ Query.termValue (record { residues = now (residues .entry); atoms = others }) (atConformer (Query.onlyIf known (some (fieldsOf 1 (recordAt (now (words .entry)) number))))) t) ⌝ }
 {
     if known {
-        optional_matches_conformer(t, word(words, number, 1), word(words, number, 2), residues)
+        let name = word(words, number, Record::CONFORMER_NAME);
+        let location = word(words, number, Record::LOCATION);
+        optional_matches_conformer(t, name, location, residues)
     } else {
         Tri::Undecided
     }
@@ -269,7 +257,7 @@ fn atom_value(t: Term, words: &[u64], number: u64, known: bool, atoms: &[u64]) -
     ensures { λ r. ⌜ ((others : List ℕ) → r ≡ Query.termValue (record { residues = others; atoms = now (atoms .entry) }) (atAtom (Query.onlyIf known (some (fieldsOf 0 (recordAt (now (words .entry)) number))))) t) ⌝ }
 {
     if known {
-        optional_matches_atom(t, record_at(words, number), atoms)
+        optional_matches_atom(t, store::read_atom(words, number as usize), atoms)
     } else {
         Tri::Undecided
     }
@@ -290,8 +278,8 @@ fn narrowed(a: Tri, b: Tri) -> Tri
     }
 }
 
-// Only words that the term asks for are read, of records whose kind is one from low to high. Backbone and SideChain ask
-// for two records: the atom's first, as the conformer's names are the longer list.
+// Only the records that the term asks for are read, where their kinds are from low to high. Backbone and SideChain ask for
+// two: the atom's comes first, as the conformer's names are the longer list.
 pub fn term_value(
     t: Term,
     words: &[u64],
@@ -306,23 +294,26 @@ pub fn term_value(
 {
     match t {
         Term::ModelSerialNumber(_) | Term::ModelSerialNumberRange(_, _) => {
-            model_value(t, words, at.model, between(low, high, 1))
+            model_value(t, words, at.model, between(low, high, Record::MODEL))
         }
         Term::ChainId(_) | Term::ChainIdRange(_, _) => {
-            chain_value(t, words, at.chain, between(low, high, 2))
+            chain_value(t, words, at.chain, between(low, high, Record::CHAIN))
         }
         Term::ResidueSerialNumber(_)
         | Term::ResidueSerialNumberRange(_, _)
         | Term::ResidueInsertionCode(_)
-        | Term::ResidueId(_, _) => residue_value(t, words, at.residue, between(low, high, 3)),
+        | Term::ResidueId(_, _) => {
+            residue_value(t, words, at.residue, between(low, high, Record::RESIDUE))
+        }
         _ => {
-            let last = atom_value(t, words, at.atom, between(low, high, 5), atoms);
+            let last = atom_value(t, words, at.atom, between(low, high, Record::ATOM), atoms);
             match last {
                 Tri::False => Tri::False,
-                _ => narrowed(
-                    last,
-                    conformer_value(t, words, at.conformer, between(low, high, 4), residues),
-                ),
+                _ => {
+                    let known = between(low, high, Record::CONFORMER);
+                    let above = conformer_value(t, words, at.conformer, known, residues);
+                    narrowed(last, above)
+                }
             }
         }
     }

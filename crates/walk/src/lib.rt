@@ -1,6 +1,7 @@
 // Find's pruned walk (document 01, "Trees and find"): one pass over a store's records, which looks below none where the tree is false,
 // and evaluates it below none where it is true.
 use machine::Found;
+use machine::Record;
 use machine::RecordNumbers;
 use machine::Refusal;
 use machine::Tri;
@@ -84,14 +85,14 @@ fn turn(
         return State::new(kind, sure);
     }
     if kind < lowest {
-        return State::new(kind, 5);
+        return State::new(kind, Record::ATOM);
     }
     let above = kind - 1;
     let v = search::value(tree, store, at, low, kind, residues, atoms);
     match v {
-        Tri::False => State::new(above, 5),
+        Tri::False => State::new(above, Record::ATOM),
         Tri::True => State::new(kind, kind),
-        Tri::Undecided => State::new(kind, 5),
+        Tri::Undecided => State::new(kind, Record::ATOM),
     }
 }
 
@@ -115,11 +116,11 @@ pub fn count_in(
     let lowest = search::lowest_kind(tree);
     let mut at = numbers_of(first);
     let mut live = depth;
-    let mut sure: u64 = 5;
+    let mut sure: u64 = Record::ATOM;
     let mut found: u64 = 0;
     let mut n = from;
     while n < end {
-        let kind = store[n * 12];
+        let kind = store[n * Record::WIDTH];
         if live + 1 < kind {
             n += 1;
         } else {
@@ -127,7 +128,7 @@ pub fn count_in(
             let next = turn(store, tree, &at, low, kind, lowest, sure, residues, atoms);
             live = next.live;
             sure = next.sure;
-            if live == 5 {
+            if live == Record::ATOM {
                 found += 1;
                 n += 1;
             } else {
@@ -170,11 +171,11 @@ pub fn find_in(
     let lowest = search::lowest_kind(tree);
     let mut at = numbers_of(first);
     let mut live = depth;
-    let mut sure: u64 = 5;
+    let mut sure: u64 = Record::ATOM;
     let mut found: u64 = 0;
     let mut n = from;
     while n < end {
-        let kind = store[n * 12];
+        let kind = store[n * Record::WIDTH];
         if live + 1 < kind {
             n += 1;
         } else {
@@ -182,7 +183,7 @@ pub fn find_in(
             let next = turn(store, tree, &at, low, kind, lowest, sure, residues, atoms);
             live = next.live;
             sure = next.sure;
-            if live == 5 {
+            if live == Record::ATOM {
                 put(out, found, &at);
                 found += 1;
                 n += 1;
@@ -212,7 +213,8 @@ fn enough(
         return true;
     }
     let end = seek::record_count(store);
-    count_in(store, 0, end, tree, 1, 0, start(), residues, atoms) <= room
+    let low = Record::MODEL;
+    count_in(store, 0, end, tree, low, 0, start(), residues, atoms) <= room
 }
 
 // A store of that many atoms, and a tree. "10 output shorter than 5 words per hit" leaves the output as it was.
@@ -225,7 +227,8 @@ fn find_checked(store: &[u64], tree: &[u64], total: u64, out: &mut [u64]) -> Fou
     let room = out.len() as u64 / 5;
     if enough(store, tree, total, room, &residues, &atoms) {
         let end = seek::record_count(store);
-        let found = find_in(store, 0, end, tree, 1, 0, start(), &residues, &atoms, out);
+        let low = Record::MODEL;
+        let found = find_in(store, 0, end, tree, low, 0, start(), &residues, &atoms, out);
         Found::Hits(found)
     } else {
         Found::Refused(Refusal::ShortOutput)

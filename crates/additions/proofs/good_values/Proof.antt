@@ -19,6 +19,9 @@ is-finite-requires-4 c κs = search needs
 is-finite-requires-5 : tie.Need-is-finite-requires-5
 is-finite-requires-5 c κs = search needs
 
+is-stored-requires : tie.Need-is-stored-requires
+is-stored-requires c κs = search needs
+
 returns : tie.Need-returns
 returns c = search (needs, values-good)
 
@@ -31,4 +34,5 @@ good-values-spec =
     is-finite-requires-3
     is-finite-requires-4
     is-finite-requires-5
+    is-stored-requires
     returns)

@@ -19,15 +19,18 @@ shared-slice-read-result-2 c = search needs
 finite-words-requires : tie.Need-finite-words-requires
 finite-words-requires c κs = search needs
 
+shared-slice-read-is-stored : tie.Need-shared-slice-read-is-stored
+shared-slice-read-is-stored c = search needs
+
+is-stored-requires : tie.Need-is-stored-requires
+is-stored-requires c κs = search needs
+
 shared-slice-read-result-3 : tie.Need-shared-slice-read-result-3
 shared-slice-read-result-3 c = search needs
 
-shared-slice-read-result-4 : tie.Need-shared-slice-read-result-4
-shared-slice-read-result-4 c = search needs
-
 returns : tie.Need-returns
 returns c =
-    let s = c .before .before .before .before .before .before .before .before in
+    let s = c .before .before .before .before .before .before .before .before .before in
     cc (atom-record (s .args .r .now) (s .pre))
 
 pub good-atom-spec : {M : Type 1} → statement M
@@ -39,6 +42,7 @@ good-atom-spec =
     shared-slice-read-result
     shared-slice-read-result-2
     finite-words-requires
+    shared-slice-read-is-stored
+    is-stored-requires
     shared-slice-read-result-3
-    shared-slice-read-result-4
     returns)
