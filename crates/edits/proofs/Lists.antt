@@ -27,7 +27,7 @@ use Rattle.store.specs.Steps.{step-good}
 use Rattle.calls.specs.Counted.{isSome, countedOf}
 use Rattle.calls.specs.declared.Counted as Counted
 use Rattle.calls.specs.Format.{readCall, readCalls}
-use Rattle.calls.specs.Laws.{calls-none, calls-step}
+use Rattle.calls.proofs.Reading.{calls-none, calls-step}
 use Rattle.dispatch.specs.Step.{stepOf}
 use Rattle.dispatch.proofs.Texts.{some-of}
 use Rattle.edits.specs.Apply.{appliedNumbers, Run, ran, answered, applied, runCalls, applyRun, callsOf}

@@ -7,8 +7,9 @@ use mathlib.Core.Option.{some}
 use lib.ListN.{replicate}
 use Rattle.machine.specs.Lists.{any, all}
 use Rattle.machine.specs.Edit.{Call, RemoveResidueById, RemoveAtomsBy, JoinModels}
-use Rattle.calls.specs.Format.{readParts, callOf, readCall, callsIn, readCalls, writeCalls}
+use Rattle.calls.specs.Format.{rows, readParts, callOf, readCall, callsIn, readCalls}
 use Rattle.calls.specs.Counted.{isSome}
+use Rattle.calls.proofs.Writing.{formOf, writeCalls}
 
 abbrev three : List Call
 three = RemoveResidueById 0 1 26 (record { flag = 1; text = 65 ∷ 66 ∷ [] }) ∷ JoinModels 0 2 ∷ RemoveAtomsBy 0 (1 ∷ 300 ∷ 0 ∷ []) ∷ []
@@ -17,10 +18,11 @@ abbrev words : List ℕ
 words = 8 ∷ 7 ∷ 0 ∷ 1 ∷ 26 ∷ 1 ∷ 2 ∷ 65 ∷ 66 ∷ 13 ∷ 2 ∷ 0 ∷ 2 ∷ 11 ∷ 5 ∷ 0 ∷ 3 ∷ 1 ∷ 300 ∷ 0 ∷ []
 
 pub written : writeCalls three ≡ words
+unfolding rows callOf formOf
 written = refl
 
 pub read : readCalls words ≡ some three
-unfolding readParts callOf readCall callsIn
+unfolding rows readParts callOf readCall callsIn
 read = refl
 
 -- a call of n words, of a tree of n - 2
@@ -49,7 +51,7 @@ bad =
     ∷ []
 
 pub refused : any (λ (ws : List ℕ). isSome (readCalls ws)) bad ≡ false
-unfolding readParts callOf readCall callsIn
+unfolding rows readParts callOf readCall callsIn
 refused = refl
 
 -- near them: no call, a word of 255, a text with none, 1,024 words
@@ -57,5 +59,5 @@ abbrev good : List (List ℕ)
 good = [] ∷ (12 ∷ 1 ∷ 0 ∷ []) ∷ (7 ∷ 3 ∷ 0 ∷ 1 ∷ 255 ∷ []) ∷ (7 ∷ 2 ∷ 0 ∷ 0 ∷ []) ∷ long 1024 1022 ∷ []
 
 pub taken : all (λ (ws : List ℕ). isSome (readCalls ws)) good ≡ true
-unfolding readParts callOf readCall callsIn
+unfolding rows readParts callOf readCall callsIn
 taken = refl
