@@ -1,12 +1,11 @@
-// Identifiers, after pdbtbx's helper.rs (document 01, "Identifiers"): texts made ready for the store, texts as given compared with
-// stored ones, and tests of stored words.
+// Identifiers, after pdbtbx's helper.rs (document 01, "Identifiers"): texts checked, trimmed, packed and made ready for the store.
 ghost use mathlib.Core.Path.{_≡_};
 ghost use mathlib.Core.Bool.{cond};
-ghost use Prim.Native.Nat.{_≤_, _<_, _^_};
+ghost use Prim.Native.Nat.{_≤_, _<_};
 ghost use lib.ListN.{length, take, drop, getD};
 ghost use Rattle.machine.specs.Lists.{all};
-ghost use Rattle.machine.specs.Text.{plain, blank, raise, trimStart, trim, pack, fit, chainId, raised, insertionCode, conformerName, alternativeLocation, atomName, byFlag, matches, matchesOptional, storedBy, absentOr, packedText};
-ghost use Rattle.helper.specs.Tidy.{trimEnd, inCase, tidyByte, tidy};
+ghost use Rattle.machine.specs.Text.{plain, blank, raise, trimStart, trim, pack, fit, chainId, raised, insertionCode, alternativeLocation, atomName, byFlag};
+ghost use Rattle.helper.specs.Text.{trimEnd, inCase};
 ghost use Rattle.machine.specs.declared.Prepared.the-variants.{Bad};
 use machine::Prepared;
 
@@ -109,7 +108,7 @@ fn digit(text: &[u8], i: usize, up: bool) -> u64
 }
 
 // The first eight bytes as a word.
-fn pack_text(text: &[u8], up: bool) -> u64
+pub fn pack_text(text: &[u8], up: bool) -> u64
     ensures { λ r. ⌜ r ≡ pack (inCase up (now (text .entry))) ⌝ }
 {
     digit(text, 0, up) * 0x100_0000_0000_0000
@@ -208,113 +207,4 @@ pub fn prepare_optional_location(flag: u64, text: &[u8]) -> Prepared
     ensures { λ r. ⌜ r ≡ byFlag flag (alternativeLocation (now (text .entry))) ⌝ }
 {
     prepare_optional(flag, text, Prepared::Absent)
-}
-
-// ---- texts as given
-
-// Byte by byte; an empty text matches nothing, and a zero byte at its end isn't padding.
-pub fn same_text(text: &[u8], stored: u64) -> bool
-    ensures { λ r. ⌜ r ≡ matches (now (text .entry)) stored ⌝ }
-{
-    let n = text.len();
-    if n < 1 {
-        return false;
-    }
-    if 8 < n {
-        return false;
-    }
-    if text[n - 1] == 0 {
-        return false;
-    }
-    let w = pack_text(text, false);
-    w == stored
-}
-
-// An absent text matches what is stored as absent.
-pub fn same_optional(flag: u64, text: &[u8], stored: u64) -> bool
-    ensures { λ r. ⌜ r ≡ matchesOptional (record { flag = flag; text = now (text .entry) }) stored ⌝ }
-{
-    if flag == 0 {
-        return stored == 0;
-    }
-    same_text(text, stored)
-}
-
-// ---- stored words
-
-// One byte, by the number that is left from it on: no byte is taken out of the word. low is 1 where the last byte may be no blank; up
-// where a..z are raised. Nearly all bytes are below a.
-fn tidy_byte(low: u64, up: bool, rest: u64, unit: u64) -> bool
-    requires { ⌜ (low ≤ 1) × (1 ≤ unit) × (unit ≤ 2 ^ 56) ⌝ }
-    ensures { λ r. ⌜ r ≡ tidyByte low up rest unit ⌝ }
-{
-    if rest < 97 * unit {
-        return (rest == 0) | (32 * unit + low <= rest);
-    }
-    if rest < 123 * unit {
-        return !up;
-    }
-    rest < 127 * unit
-}
-
-// All eight bytes. The loop is over their worth, not over what is left: so its turns are known, and it is compiled without divisions.
-fn tidy_text(low: u64, up: bool, w: u64) -> bool
-    requires { ⌜ low ≤ 1 ⌝ }
-    ensures { λ r. ⌜ r ≡ tidy low up 8 w ⌝ }
-{
-    let mut rest = w;
-    let mut unit: u64 = 0x100_0000_0000_0000;
-    while 0 < unit {
-        if rest == 0 {
-            return true;
-        }
-        if tidy_byte(low, up, rest, unit) {
-            rest = rest % unit;
-            unit = unit / 256;
-        } else {
-            return false;
-        }
-    }
-    true
-}
-
-// A query's text: packed, every byte 32..126.
-pub fn packed_text(w: u64) -> bool
-    ensures { λ r. ⌜ r ≡ packedText w ⌝ }
-{
-    tidy_text(0, false, w)
-}
-
-// From 33 as its first byte on, a word isn't empty and starts with no blank.
-pub fn stored_chain_id(w: u64) -> bool
-    ensures { λ r. ⌜ r ≡ storedBy chainId w ⌝ }
-{
-    (0x2100_0000_0000_0000 <= w) & tidy_text(1, false, w)
-}
-
-pub fn stored_name(w: u64) -> bool
-    ensures { λ r. ⌜ r ≡ storedBy conformerName w ⌝ }
-{
-    (0x2100_0000_0000_0000 <= w) & tidy_text(1, true, w)
-}
-
-pub fn stored_code(w: u64) -> bool
-    ensures { λ r. ⌜ r ≡ absentOr insertionCode w ⌝ }
-{
-    if w == 0 {
-        return true;
-    }
-    stored_name(w)
-}
-
-pub fn stored_location(w: u64) -> bool
-    ensures { λ r. ⌜ r ≡ absentOr alternativeLocation w ⌝ }
-{
-    stored_code(w)
-}
-
-pub fn stored_atom_name(w: u64) -> bool
-    ensures { λ r. ⌜ r ≡ storedBy atomName w ⌝ }
-{
-    stored_code(w)
 }

@@ -89,7 +89,7 @@ fn is_wanted(
         return serial == store[word + 1];
     }
     if level == 1 {
-        if helper::same_optional(flag, location, store[word + 2]) {
+        if stored::same_optional(flag, location, store[word + 2]) {
             if spans_serial(store, at + 1, stop, serial) {
                 return has_serial(store, at + 1, stop, serial);
             }

@@ -26,7 +26,7 @@ fn is_marked(store: &[u64], at: usize, kind: u64, word: u64, flag: u64, text: &[
     if store[at * Record::WIDTH + 1] != word {
         return false;
     }
-    helper::same_optional(flag, text, store[at * Record::WIDTH + 2])
+    stored::same_optional(flag, text, store[at * Record::WIDTH + 2])
 }
 
 // The number of a record.

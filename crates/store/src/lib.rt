@@ -53,7 +53,7 @@ fn good_atom(r: &[u64]) -> bool
     requires { ⌜ length (now r) ≡ 12 ⌝ }
     ensures { λ b. ⌜ b ≡ goodRecord 0 (now (r .entry)) ⌝ }
 {
-    let named = helper::stored_atom_name(r[2]);
+    let named = stored::stored_atom_name(r[2]);
     (r[0] == 5) & (r[11] == 0) & named & finite_words(r) & (r[8] <= 118) & (r[10] <= 1)
 }
 
@@ -89,9 +89,9 @@ fn good_record(r: &[u64]) -> bool
     ensures { λ b. ⌜ b ≡ goodRecord (5 - kind (now (r .entry))) (now (r .entry)) ⌝ }
 {
     match r[0] {
-        4 => unnamed_zero(r) & helper::stored_name(r[1]) & helper::stored_location(r[2]),
-        3 => unnamed_zero(r) & helper::stored_code(r[2]),
-        2 => (r[2] == 0) & unnamed_zero(r) & helper::stored_chain_id(r[1]),
+        4 => unnamed_zero(r) & stored::stored_name(r[1]) & stored::stored_location(r[2]),
+        3 => unnamed_zero(r) & stored::stored_code(r[2]),
+        2 => (r[2] == 0) & unnamed_zero(r) & stored::stored_chain_id(r[1]),
         1 => (r[2] == 0) & unnamed_zero(r),
         _ => false,
     }

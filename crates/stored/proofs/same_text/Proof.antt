@@ -1,9 +1,9 @@
--- `helper::same_text` is `matches`. Assumes nothing.
-use Rattle.helper.proofs.Laws.{match-none, match-long, match-zero, match-word}
+-- `stored::same_text` is `matches`. Assumes nothing.
+use Rattle.stored.proofs.Given.{match-none, match-long, match-zero, match-word}
 use borrow.Author.Needs.{needs}
 use native.Mathlib.Omega.{arith}
-use Rattle.helper.proofs.same_text.Statement.{statement}
-use Rattle.helper.proofs.same_text.Tie as tie
+use Rattle.stored.proofs.same_text.Statement.{statement}
+use Rattle.stored.proofs.same_text.Tie as tie
 
 returns : tie.Need-returns
 returns c = search (needs, match-none)

@@ -1,8 +1,8 @@
--- `helper::tidy_text` is `tidy` of eight bytes: one byte to a turn. The measure is the worth of a byte. Assumes nothing.
-use Rattle.helper.proofs.Stored.{TextLeft, text-begin, text-all, text-again, text-not, text-done}
+-- `stored::tidy_text` is `tidy` of eight bytes: one byte to a turn. The measure is the worth of a byte. Assumes nothing.
+use Rattle.stored.proofs.Words.{TextLeft, text-begin, text-all, text-again, text-not, text-done}
 use borrow.Author.Needs.{needs}
-use Rattle.helper.proofs.tidy_text.Statement.{statement}
-use Rattle.helper.proofs.tidy_text.Tie as tie
+use Rattle.stored.proofs.tidy_text.Statement.{statement}
+use Rattle.stored.proofs.tidy_text.Tie as tie
 
 abbrev Inv-loop : tie.InvT-loop
 Inv-loop low up w rest₀ unit₀ rest unit = TextLeft low up w rest unit

@@ -1,8 +1,8 @@
--- `helper::stored_location` is `absentOr alternativeLocation`. Assumes nothing.
-use Rattle.helper.proofs.Stored.{location-stored}
+-- `stored::stored_location` is `absentOr alternativeLocation`. Assumes nothing.
+use Rattle.stored.proofs.Words.{location-stored}
 use borrow.Author.Needs.{needs}
-use Rattle.helper.proofs.stored_location.Statement.{statement}
-use Rattle.helper.proofs.stored_location.Tie as tie
+use Rattle.stored.proofs.stored_location.Statement.{statement}
+use Rattle.stored.proofs.stored_location.Tie as tie
 
 stored-code-requires : tie.Need-stored-code-requires
 stored-code-requires c κs = search needs

@@ -1,8 +1,8 @@
--- `helper::stored_name` is `storedBy conformerName`. Assumes nothing.
-use Rattle.helper.proofs.Stored.{name-stored}
+-- `stored::stored_name` is `storedBy conformerName`. Assumes nothing.
+use Rattle.stored.proofs.Words.{name-stored}
 use borrow.Author.Needs.{needs}
-use Rattle.helper.proofs.stored_name.Statement.{statement}
-use Rattle.helper.proofs.stored_name.Tie as tie
+use Rattle.stored.proofs.stored_name.Statement.{statement}
+use Rattle.stored.proofs.stored_name.Tie as tie
 
 tidy-text-requires : tie.Need-tidy-text-requires
 tidy-text-requires c κs = search needs

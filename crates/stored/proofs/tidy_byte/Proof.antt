@@ -1,8 +1,8 @@
--- `helper::tidy_byte` is `tidyByte`. Assumes nothing.
-use Rattle.helper.proofs.Stored.{byte-low, byte-letter, byte-high}
+-- `stored::tidy_byte` is `tidyByte`. Assumes nothing.
+use Rattle.stored.proofs.Words.{byte-low, byte-letter, byte-high}
 use borrow.Author.Needs.{needs}
-use Rattle.helper.proofs.tidy_byte.Statement.{statement}
-use Rattle.helper.proofs.tidy_byte.Tie as tie
+use Rattle.stored.proofs.tidy_byte.Statement.{statement}
+use Rattle.stored.proofs.tidy_byte.Tie as tie
 
 mul-if1 : tie.Need-mul-if1
 mul-if1 c = search needs

@@ -15,7 +15,8 @@ use Rattle.machine.specs.declared.Prepared.the-variants.{Stored, Absent, Bad}
 use Rattle.laws.specs.Lists.{and-both}
 use Rattle.laws.specs.Packing.{pack-textOf, length-textOf, plain-is, both-ways}
 use Rattle.laws.specs.Text.{trimStart-trim, trim-twice, all-trim, not-blank, is-plain, all-raise, trim-raise, bad-stores-none, absent-stores-none, stored-where, fit-text, stored-again}
-use Rattle.helper.specs.Tidy.{inCase, tidyByte, tidy}
+use Rattle.helper.specs.Text.{inCase}
+use Rattle.stored.specs.Word.{tidyByte, tidy}
 
 -- ---- the code's tests, unfolded
 

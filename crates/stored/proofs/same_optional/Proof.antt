@@ -1,8 +1,8 @@
--- `helper::same_optional` goes by its flag. Assumes nothing.
-use Rattle.helper.proofs.Laws.{optional-absent, optional-given}
+-- `stored::same_optional` goes by its flag. Assumes nothing.
+use Rattle.stored.proofs.Given.{optional-absent, optional-given}
 use borrow.Author.Needs.{needs}
-use Rattle.helper.proofs.same_optional.Statement.{statement}
-use Rattle.helper.proofs.same_optional.Tie as tie
+use Rattle.stored.proofs.same_optional.Statement.{statement}
+use Rattle.stored.proofs.same_optional.Tie as tie
 
 returns : tie.Need-returns
 returns c = search (needs, optional-absent)

@@ -1,8 +1,8 @@
--- `helper::stored_atom_name` is `storedBy atomName`. Assumes nothing.
-use Rattle.helper.proofs.Stored.{atom-stored}
+-- `stored::stored_atom_name` is `storedBy atomName`. Assumes nothing.
+use Rattle.stored.proofs.Words.{atom-stored}
 use borrow.Author.Needs.{needs}
-use Rattle.helper.proofs.stored_atom_name.Statement.{statement}
-use Rattle.helper.proofs.stored_atom_name.Tie as tie
+use Rattle.stored.proofs.stored_atom_name.Statement.{statement}
+use Rattle.stored.proofs.stored_atom_name.Tie as tie
 
 stored-code-requires : tie.Need-stored-code-requires
 stored-code-requires c κs = search needs

@@ -1,8 +1,8 @@
--- `helper::packed_text` is `packedText`. Assumes nothing.
-use Rattle.helper.proofs.Stored.{packed-text}
+-- `stored::packed_text` is `packedText`. Assumes nothing.
+use Rattle.stored.proofs.Words.{packed-text}
 use borrow.Author.Needs.{needs}
-use Rattle.helper.proofs.packed_text.Statement.{statement}
-use Rattle.helper.proofs.packed_text.Tie as tie
+use Rattle.stored.proofs.packed_text.Statement.{statement}
+use Rattle.stored.proofs.packed_text.Tie as tie
 
 tidy-text-requires : tie.Need-tidy-text-requires
 tidy-text-requires c κs = search needs

@@ -1,8 +1,8 @@
--- `helper::stored_code` is `absentOr insertionCode`. Assumes nothing.
-use Rattle.helper.proofs.Stored.{code-absent, code-stored}
+-- `stored::stored_code` is `absentOr insertionCode`. Assumes nothing.
+use Rattle.stored.proofs.Words.{code-absent, code-stored}
 use borrow.Author.Needs.{needs}
-use Rattle.helper.proofs.stored_code.Statement.{statement}
-use Rattle.helper.proofs.stored_code.Tie as tie
+use Rattle.stored.proofs.stored_code.Statement.{statement}
+use Rattle.stored.proofs.stored_code.Tie as tie
 
 returns : tie.Need-returns
 returns c = search (needs, code-absent)

@@ -1,8 +1,8 @@
--- `helper::stored_chain_id` is `storedBy chainId`. Assumes nothing.
-use Rattle.helper.proofs.Stored.{chain-stored}
+-- `stored::stored_chain_id` is `storedBy chainId`. Assumes nothing.
+use Rattle.stored.proofs.Words.{chain-stored}
 use borrow.Author.Needs.{needs}
-use Rattle.helper.proofs.stored_chain_id.Statement.{statement}
-use Rattle.helper.proofs.stored_chain_id.Tie as tie
+use Rattle.stored.proofs.stored_chain_id.Statement.{statement}
+use Rattle.stored.proofs.stored_chain_id.Tie as tie
 
 tidy-text-requires : tie.Need-tidy-text-requires
 tidy-text-requires c κs = search needs
