@@ -14,7 +14,7 @@ use Rattle.machine.specs.Text.{packed, pack, plain, blank, raise, trimStart, tr
 use Rattle.machine.specs.declared.Prepared.{Prepared}
 use Rattle.machine.specs.declared.Prepared.the-variants.{Stored, Absent, Bad}
 use Rattle.laws.specs.Packing.{packed-none}
-use Rattle.helper.specs.Text.{trimEnd, inCase}
+use Rattle.helper.specs.Text.{trimEnd, upperIf}
 
 -- ---- trimming
 
@@ -25,7 +25,7 @@ trimStart-cons : (b : ℕ) (bs : List ℕ) (a : Bool) → a ≡ blank b → trim
 unfolding trimStart
 trimStart-cons b bs a e = rw e
 
--- `ink_start`: the blanks before i are trimmed
+-- `trim_start`: the blanks before i are trimmed
 pub record Started (t : List ℕ) (i : ℕ) : Type 0 where
   pub within : i ≤ length t
   pub same : trimStart t ≡ trimStart (drop i t)
@@ -39,8 +39,8 @@ start-again t i a s h p q = record {
   same = s .same ∙ ap trimStart (next t i h) ∙ trimStart-cons (getD t i 0) (drop (i + 1) t) a p ∙ rw q;
 }
 
-pub start-ink : (t : List ℕ) (i : ℕ) (a : Bool) → Started t i → i < length t → a ≡ blank (getD t i 0) → a ≡ false → trimStart t ≡ drop i t
-start-ink t i a s h p q = s .same ∙ ap trimStart (next t i h) ∙ trimStart-cons (getD t i 0) (drop (i + 1) t) a p ∙ rw q (sym (next t i h))
+pub start-found : (t : List ℕ) (i : ℕ) (a : Bool) → Started t i → i < length t → a ≡ blank (getD t i 0) → a ≡ false → trimStart t ≡ drop i t
+start-found t i a s h p q = s .same ∙ ap trimStart (next t i h) ∙ trimStart-cons (getD t i 0) (drop (i + 1) t) a p ∙ rw q (sym (next t i h))
 
 pub start-none : (t : List ℕ) (i : ℕ) → Started t i → length t ≤ i → trimStart t ≡ drop i t
 unfolding trimStart
@@ -54,7 +54,7 @@ trimEnd-snoc bs b a e = rw (reverse-append bs (b ∷ []), trimStart-cons b (reve
     go true = refl
     go false = rw (← reverse-append bs (b ∷ []), reverse-reverse)
 
--- `ink_end`: the blanks from i on are trimmed
+-- `trim_end`: the blanks from i on are trimmed
 pub record Ended (t : List ℕ) (i : ℕ) : Type 0 where
   pub within : i ≤ length t
   pub same : trimEnd t ≡ trimEnd (take i t)
@@ -71,8 +71,8 @@ end-again t i a s h p q = record {
   same = s .same ∙ ap trimEnd (last t i h (s .within)) ∙ trimEnd-snoc (take (i - 1) t) (getD t (i - 1) 0) a p ∙ rw q;
 }
 
-pub end-ink : (t : List ℕ) (i : ℕ) (a : Bool) → Ended t i → 0 < i → a ≡ blank (getD t (i - 1) 0) → a ≡ false → trimEnd t ≡ take i t
-end-ink t i a s h p q =
+pub end-found : (t : List ℕ) (i : ℕ) (a : Bool) → Ended t i → 0 < i → a ≡ blank (getD t (i - 1) 0) → a ≡ false → trimEnd t ≡ take i t
+end-found t i a s h p q =
     s .same ∙ ap trimEnd (last t i h (s .within)) ∙ trimEnd-snoc (take (i - 1) t) (getD t (i - 1) 0) a p ∙ rw q (sym (last t i h (s .within)))
 
 pub end-none : (t : List ℕ) (i : ℕ) → Ended t i → i ≤ 0 → trimEnd t ≡ take i t
@@ -117,10 +117,10 @@ valid-not t i a s h p q = sym (s .same ∙ all-next t i a h p ∙ rw q)
 pub valid-done : (t : List ℕ) (i : ℕ) → Valid t i → length t ≤ i → true ≡ all plain t
 valid-done t i s h = sym (s .same ∙ rw (drop-of-length-le t {i = i} h))
 
--- `cased`
-pub kept : (up : Bool) (b : ℕ) → not up ≡ true → b ≡ cond up (raise b) b
-kept true b h = absurd (false≢true h)
-kept false b h = refl
+-- `upper_if`
+pub raise-not : (up : Bool) (b : ℕ) → not up ≡ true → b ≡ cond up (raise b) b
+raise-not true b h = absurd (false≢true h)
+raise-not false b h = refl
 
 module _ (up : Bool) (b : ℕ) (u : not up ≡ false) where
   raises : cond up (raise b) b ≡ raise b
@@ -140,15 +140,15 @@ module _ (up : Bool) (b : ℕ) (u : not up ≡ false) where
   raise-mid k h = rw (raises, le-leb 97 b k, le-leb b 122 h)
 
 -- `digit`
-getD-case : (up : Bool) (t : List ℕ) (i : ℕ) → getD (inCase up t) i 0 ≡ cond up (raise (getD t i 0)) (getD t i 0)
-getD-case true t i = List·getD-map raise t i 0
-getD-case false t i = refl
+getD-upperIf : (up : Bool) (t : List ℕ) (i : ℕ) → getD (upperIf up t) i 0 ≡ cond up (raise (getD t i 0)) (getD t i 0)
+getD-upperIf true t i = List·getD-map raise t i 0
+getD-upperIf false t i = refl
 
-pub digit-in : (up : Bool) (t : List ℕ) (i r : ℕ) → r ≡ cond up (raise (getD t i 0)) (getD t i 0) → r ≡ getD (inCase up t) i 0
-digit-in up t i r p = p ∙ sym (getD-case up t i)
+pub digit-in : (up : Bool) (t : List ℕ) (i r : ℕ) → r ≡ cond up (raise (getD t i 0)) (getD t i 0) → r ≡ getD (upperIf up t) i 0
+digit-in up t i r p = p ∙ sym (getD-upperIf up t i)
 
-pub digit-out : (up : Bool) (t : List ℕ) (i : ℕ) → length t ≤ i → 0 ≡ getD (inCase up t) i 0
-digit-out up t i h = sym (getD-case up t i ∙ rw (List·getD-eq-default t 0 {n = i} h) (go up))
+pub digit-out : (up : Bool) (t : List ℕ) (i : ℕ) → length t ≤ i → 0 ≡ getD (upperIf up t) i 0
+digit-out up t i h = sym (getD-upperIf up t i ∙ rw (List·getD-eq-default t 0 {n = i} h) (go up))
   where
     go : (up : Bool) → cond up (raise 0) 0 ≡ 0
     go true = refl
@@ -183,16 +183,16 @@ pack-eight t d₀ d₁ d₂ d₃ d₄ d₅ d₆ d₇ h₀ h₁ h₂ h₃ h₄ h�
 
 -- ---- made ready for the store
 
-length-case : (up : Bool) (t : List ℕ) → length (inCase up t) ≡ length t
-length-case true t = length-map t raise
-length-case false t = refl
+length-upperIf : (up : Bool) (t : List ℕ) → length (upperIf up t) ≡ length t
+length-upperIf true t = length-map t raise
+length-upperIf false t = refl
 
 module _ (up : Bool) (t : List ℕ) where
-  pub fit-good : (w : ℕ) → length t ≤ 8 → w ≡ pack (inCase up t) → Stored w ≡ fit (inCase up t)
-  fit-good w h p = rw (length-case up t, le-leb (length t) 8 h, p)
+  pub fit-good : (w : ℕ) → length t ≤ 8 → w ≡ pack (upperIf up t) → Stored w ≡ fit (upperIf up t)
+  fit-good w h p = rw (length-upperIf up t, le-leb (length t) 8 h, p)
 
-  pub fit-long : 8 < length t → Bad ≡ fit (inCase up t)
-  fit-long h = rw (length-case up t, lt-leb (length t) 8 h)
+  pub fit-long : 8 < length t → Bad ≡ fit (upperIf up t)
+  fit-long h = rw (length-upperIf up t, lt-leb (length t) 8 h)
 
 pub any-byte : (t : List ℕ) → not (isEmpty t) ≡ ltb 0 (length t)
 any-byte [] = refl

@@ -9,5 +9,5 @@ unfoldable pub trimEnd : List ℕ → List ℕ
 trimEnd t = reverse (trimStart (reverse t))
 
 -- a to z raised where `up`
-abbrev pub inCase : Bool → List ℕ → List ℕ
-inCase up t = cond up (map raise t) t
+abbrev pub upperIf : Bool → List ℕ → List ℕ
+upperIf up t = cond up (map raise t) t

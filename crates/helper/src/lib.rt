@@ -1,32 +1,33 @@
-// Identifiers, after pdbtbx's helper.rs (document 01, "Identifiers"): texts checked, trimmed, packed and made ready for the store.
+// Identifiers, after pdbtbx's helper.rs (document 01, "Identifiers"): what becomes of a text that is given, from the check of its bytes to
+// the word that is stored.
 ghost use mathlib.Core.Path.{_≡_};
 ghost use mathlib.Core.Bool.{cond};
 ghost use Prim.Native.Nat.{_≤_, _<_};
 ghost use lib.ListN.{length, take, drop, getD};
 ghost use Rattle.machine.specs.Lists.{all};
 ghost use Rattle.machine.specs.Text.{plain, blank, raise, trimStart, trim, pack, fit, chainId, raised, insertionCode, alternativeLocation, atomName, byFlag};
-ghost use Rattle.helper.specs.Text.{trimEnd, inCase};
+ghost use Rattle.helper.specs.Text.{trimEnd, upperIf};
 ghost use Rattle.machine.specs.declared.Prepared.the-variants.{Bad};
 use machine::Prepared;
 
-// Bytes are 32..126.
+// A byte of an identifier is 32..126.
 pub fn check_char(b: u8) -> bool
     ensures { λ r. ⌜ r ≡ plain b ⌝ }
 {
     (32 <= b) & (b <= 126)
 }
 
-// Blanks are bytes 9..13 and 32.
+// The blanks are the bytes 9..13 and 32.
 pub fn is_blank(b: u8) -> bool
     ensures { λ r. ⌜ r ≡ blank b ⌝ }
 {
     ((9 <= b) & (b <= 13)) | (b == 32)
 }
 
-// ---- texts
+// ---- checking, trimming, packing
 
-// Where the text starts but for blanks.
-fn ink_start(text: &[u8]) -> usize
+// The index of the first byte that isn't blank, the length where all are.
+fn trim_start(text: &[u8]) -> usize
     ensures { λ r. ⌜ (r ≤ length (now (text .entry))) × (trimStart (now (text .entry)) ≡ drop r (now (text .entry))) ⌝ }
 {
     let mut i: usize = 0;
@@ -40,8 +41,8 @@ fn ink_start(text: &[u8]) -> usize
     i
 }
 
-// Where the text ends but for blanks.
-fn ink_end(text: &[u8]) -> usize
+// The index after the last byte that isn't blank, 0 where all are.
+fn trim_end(text: &[u8]) -> usize
     ensures { λ r. ⌜ (r ≤ length (now (text .entry))) × (trimEnd (now (text .entry)) ≡ take r (now (text .entry))) ⌝ }
 {
     let mut i = text.len();
@@ -55,16 +56,17 @@ fn ink_end(text: &[u8]) -> usize
     i
 }
 
-// Without the blanks at both ends.
+// The text without the blanks at both its ends.
 fn trimmed(text: &[u8]) -> &[u8]
     ensures { λ r. ⌜ now r ≡ trim (now (text .entry)) ⌝ }
 {
-    let a = ink_start(text);
+    let a = trim_start(text);
     let rest = &text[a..];
-    let e = ink_end(rest);
+    let e = trim_end(rest);
     &rest[..e]
 }
 
+// Whether every byte passes `check_char`.
 fn valid_text(text: &[u8]) -> bool
     ensures { λ r. ⌜ r ≡ all plain (now (text .entry)) ⌝ }
 {
@@ -79,8 +81,8 @@ fn valid_text(text: &[u8]) -> bool
     true
 }
 
-// A byte, a..z raised where `up` says so.
-fn cased(b: u8, up: bool) -> u64
+// The byte as a number, with a..z raised if `up`.
+fn upper_if(b: u8, up: bool) -> u64
     ensures { λ r. ⌜ (r ≡ cond up (raise b) b) × (r < 256) ⌝ }
 {
     let x = b as u64;
@@ -96,20 +98,20 @@ fn cased(b: u8, up: bool) -> u64
     x - 32
 }
 
-// The byte at i, 0 past the text's end.
+// The byte at i, and 0 past the text's end.
 fn digit(text: &[u8], i: usize, up: bool) -> u64
-    ensures { λ r. ⌜ (r ≡ getD (inCase up (now (text .entry))) i 0) × (r < 256) ⌝ }
+    ensures { λ r. ⌜ (r ≡ getD (upperIf up (now (text .entry))) i 0) × (r < 256) ⌝ }
 {
     if i < text.len() {
-        cased(text[i], up)
+        upper_if(text[i], up)
     } else {
         0
     }
 }
 
-// The first eight bytes as a word.
+// The first eight bytes as a word, with a..z raised if `up`.
 pub fn pack_text(text: &[u8], up: bool) -> u64
-    ensures { λ r. ⌜ r ≡ pack (inCase up (now (text .entry))) ⌝ }
+    ensures { λ r. ⌜ r ≡ pack (upperIf up (now (text .entry))) ⌝ }
 {
     digit(text, 0, up) * 0x100_0000_0000_0000
         + digit(text, 1, up) * 0x1_0000_0000_0000
@@ -121,11 +123,11 @@ pub fn pack_text(text: &[u8], up: bool) -> u64
         + digit(text, 7, up)
 }
 
-// ---- made ready for the store
+// ---- preparing
 
-// An identifier over 8 bytes after trimming is bad.
-fn fitted(text: &[u8], up: bool) -> Prepared
-    ensures { λ r. ⌜ r ≡ fit (inCase up (now (text .entry))) ⌝ }
+// The packed text; a trimmed text of over 8 bytes is bad.
+fn packed_or_bad(text: &[u8], up: bool) -> Prepared
+    ensures { λ r. ⌜ r ≡ fit (upperIf up (now (text .entry))) ⌝ }
 {
     if text.len() <= 8 {
         Prepared::Stored(pack_text(text, up))
@@ -134,57 +136,57 @@ fn fitted(text: &[u8], up: bool) -> Prepared
     }
 }
 
-// Chain ids: trimmed, then checked; case is kept.
-pub fn prepare_identifier(text: &[u8]) -> Prepared
+// A chain id is trimmed, then checked, and keeps its case: pdbtbx's `Model::add_atom` trims it before `prepare_identifier` checks it.
+pub fn prepare_chain_id(text: &[u8]) -> Prepared
     ensures { λ r. ⌜ r ≡ chainId (now (text .entry)) ⌝ }
 {
     let t = trimmed(text);
     if valid_text(t) & (0 < t.len()) {
-        fitted(t, false)
+        packed_or_bad(t, false)
     } else {
         Prepared::Bad
     }
 }
 
-// Checked before trimming, then raised; else the other answer.
-fn prepare_raised(text: &[u8], other: Prepared) -> Prepared
+// The text is checked, then trimmed and raised; a bad or blank one gives the other answer.
+fn prepare_uppercase_or(text: &[u8], other: Prepared) -> Prepared
     ensures { λ r. ⌜ r ≡ raised (now (text .entry)) other ⌝ }
 {
     let t = trimmed(text);
     if valid_text(text) & (0 < t.len()) {
-        fitted(t, true)
+        packed_or_bad(t, true)
     } else {
         other
     }
 }
 
-// Insertion codes and conformer names.
+// For insertion codes and conformer names.
 pub fn prepare_identifier_uppercase(text: &[u8]) -> Prepared
     ensures { λ r. ⌜ r ≡ raised (now (text .entry)) Bad ⌝ }
 {
-    prepare_raised(text, Prepared::Bad)
+    prepare_uppercase_or(text, Prepared::Bad)
 }
 
-// Alternative locations: a bad or blank one is absent.
+// A bad or blank alternative location is stored as absent.
 pub fn prepare_location(text: &[u8]) -> Prepared
     ensures { λ r. ⌜ r ≡ alternativeLocation (now (text .entry)) ⌝ }
 {
-    prepare_raised(text, Prepared::Absent)
+    prepare_uppercase_or(text, Prepared::Absent)
 }
 
-// Atom names: trimmed, then checked; may be empty; raised.
+// An atom name is trimmed, then checked and raised; it may be empty.
 pub fn prepare_atom_name(text: &[u8]) -> Prepared
     ensures { λ r. ⌜ r ≡ atomName (now (text .entry)) ⌝ }
 {
     let t = trimmed(text);
     if valid_text(t) {
-        fitted(t, true)
+        packed_or_bad(t, true)
     } else {
         Prepared::Bad
     }
 }
 
-// With flag 0 the bytes aren't read; a flag over 1 is bad.
+// With flag 0 the text isn't read; a flag over 1 is bad.
 fn prepare_optional(flag: u64, text: &[u8], other: Prepared) -> Prepared
     ensures { λ r. ⌜ r ≡ byFlag flag (raised (now (text .entry)) other) ⌝ }
 {
@@ -194,7 +196,7 @@ fn prepare_optional(flag: u64, text: &[u8], other: Prepared) -> Prepared
     if 1 < flag {
         return Prepared::Bad;
     }
-    prepare_raised(text, other)
+    prepare_uppercase_or(text, other)
 }
 
 pub fn prepare_optional_code(flag: u64, text: &[u8]) -> Prepared

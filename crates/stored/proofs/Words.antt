@@ -1,4 +1,4 @@
--- Laws of stored words: what the test by numbers says of a word's text, and what each rule stores again. Assumes nothing.
+-- Laws of stored words: what the test by numbers says of a word's text, and which texts a rule stores as they are. Assumes nothing.
 use Prim.Native.Nat.{ℕ, zero, suc, _+_, _-_, _*_, _/_, _%_, _^_, _≤_, _<_}
 use mathlib.Core.Path.{_≡_, refl, sym, ap, _∙_}
 use mathlib.Core.Bool.{Bool, true, false, cond, not, _&&_, _||_, false≢true, and-false, and-true}
@@ -15,72 +15,72 @@ use Rattle.machine.specs.declared.Prepared.the-variants.{Stored, Absent, Bad}
 use Rattle.laws.specs.Lists.{and-both}
 use Rattle.laws.specs.Packing.{pack-textOf, length-textOf, plain-is, both-ways}
 use Rattle.laws.specs.Text.{trimStart-trim, trim-twice, all-trim, not-blank, is-plain, all-raise, trim-raise, bad-stores-none, absent-stores-none, stored-where, fit-text, stored-again}
-use Rattle.helper.specs.Text.{inCase}
-use Rattle.stored.specs.Word.{tidyByte, tidy}
+use Rattle.helper.specs.Text.{upperIf}
+use Rattle.stored.specs.Word.{storedByte, storedText}
 
 -- ---- the code's tests, unfolded
 
 module _ (low : ℕ) (up : Bool) where
-  tidy-zero : (n : ℕ) → tidy low up n 0 ≡ true
-  unfolding tidy tidyByte
-  tidy-zero zero = refl
-  tidy-zero (suc n) = rw (zero-mod (256 ^ n)) (tidy-zero n)
+  storedText-zero : (n : ℕ) → storedText low up n 0 ≡ true
+  unfolding storedText storedByte
+  storedText-zero zero = refl
+  storedText-zero (suc n) = rw (zero-mod (256 ^ n)) (storedText-zero n)
 
--- `tidy_text`: what is left of w is the number rest, of which unless it is 0 the first byte is worth unit
+-- `stored_text`: what is left of w is the number rest, of which unless it is 0 the first byte is worth unit
 pub record TextLeft (low : ℕ) (up : Bool) (w rest unit : ℕ) : Type 0 where
   n : ℕ
   worth : 0 < rest → unit ≡ 256 ^ n
   pub fits : unit ≤ 2 ^ 56
-  same : tidy low up 8 w ≡ tidy low up (suc n) rest
+  same : storedText low up 8 w ≡ storedText low up (suc n) rest
 
 module _ (low : ℕ) (up : Bool) (w : ℕ) where
   pub text-begin : TextLeft low up w w 0x100_0000_0000_0000
   text-begin = record { n = 7; worth = λ h. refl; fits = omega arith; same = refl }
 
   module _ {rest unit : ℕ} (t : TextLeft low up w rest unit) where
-    pub text-done : rest ≡ 0 → true ≡ tidy low up 8 w
-    text-done z = sym (t .same ∙ rw z (tidy-zero low up (suc (t .n))))
+    pub text-done : rest ≡ 0 → true ≡ storedText low up 8 w
+    text-done z = sym (t .same ∙ rw z (storedText-zero low up (suc (t .n))))
 
-    pub text-all : unit ≤ 0 → true ≡ tidy low up 8 w
+    pub text-all : unit ≤ 0 → true ≡ storedText low up 8 w
     text-all h = go (leb rest 0) refl
       where
-        go : (b : Bool) → leb rest 0 ≡ b → true ≡ tidy low up 8 w
+        go : (b : Bool) → leb rest 0 ≡ b → true ≡ storedText low up 8 w
         go true e = let l = leb-true rest 0 e in text-done (omega arith)
         go false e = let m = leb-false rest 0 e in absurd (omega (arith, t .worth m, one-le-pow (t .n) 256 (omega arith)))
 
-    module _ (some : rest ≡ 0 → ⊥) {b : Bool} (e : b ≡ tidyByte low up rest unit) where
+    module _ (some : rest ≡ 0 → ⊥) {b : Bool} (e : b ≡ storedByte low up rest unit) where
       worth : unit ≡ 256 ^ (t .n)
       worth = t .worth (omega arith)
 
-      byte : tidyByte low up rest (256 ^ (t .n)) ≡ b
+      byte : storedByte low up rest (256 ^ (t .n)) ≡ b
       byte = rw (← worth) (sym e)
 
-      pub text-not : b ≡ false → false ≡ tidy low up 8 w
-      unfolding tidy
+      pub text-not : b ≡ false → false ≡ storedText low up 8 w
+      unfolding storedText
       text-not f = sym (t .same ∙ rw (byte, f))
 
       pub text-again : b ≡ true → TextLeft low up w (rest % unit) (unit / 256)
-      unfolding tidy
+      unfolding storedText
       text-again f = rw worth (go (t .n) (t .same ∙ rw (byte, f)) (rw (← worth) (t .fits)))
         where
-          go : (n : ℕ) → tidy low up 8 w ≡ tidy low up n (rest % 256 ^ n) → 256 ^ n ≤ 2 ^ 56 → TextLeft low up w (rest % 256 ^ n) (256 ^ n / 256)
-          go zero s l = record { n = zero; worth = λ h. absurd (omega (arith, mod-one rest)); fits = omega arith; same = s ∙ sym (ap (tidy low up 1) (mod-one rest) ∙ tidy-zero low up 1) }
+          go : (n : ℕ) → storedText low up 8 w ≡ storedText low up n (rest % 256 ^ n) → 256 ^ n ≤ 2 ^ 56 → TextLeft low up w (rest % 256 ^ n) (256 ^ n / 256)
+          go zero s l = record { n = zero; worth = λ h. absurd (omega (arith, mod-one rest)); fits = omega arith; same = s ∙ sym (ap (storedText low up 1) (mod-one rest) ∙ storedText-zero low up 1) }
           go (suc n) s l = record { n = n; worth = λ h. rw (pow-suc 256 n) (mul-div-cancel (256 ^ n) (omega arith)); fits = omega arith; same = s }
 
--- `tidy_byte`: below a, a to z, and above
+-- `stored_byte`: below a, a to z, and above
 module _ (low : ℕ) (up : Bool) (rest unit : ℕ) where
-  pub byte-low : rest < 97 * unit → eqb rest 0 || leb (32 * unit + low) rest ≡ tidyByte low up rest unit
-  unfolding tidyByte
+  pub byte-low : rest < 97 * unit → eqb rest 0 || leb (32 * unit + low) rest ≡ storedByte low up rest unit
+  unfolding storedByte
   byte-low h = rw (lt-leb (97 * unit) rest h, lt-ltb rest (127 * unit) (omega arith), and-false) (simp and-true)
 
   module _ (l : low ≤ 1) (u : 1 ≤ unit) (h : 97 * unit ≤ rest) where
-    pub byte-letter : rest < 123 * unit → not up ≡ tidyByte low up rest unit
-    unfolding tidyByte
+    pub byte-letter : rest < 123 * unit → not up ≡ storedByte low up rest unit
+    unfolding storedByte
     byte-letter k =
         rw (ne-eqb rest 0 (λ z. omega arith), le-leb (32 * unit + low) rest (omega arith), le-leb (97 * unit) rest h, lt-ltb rest (127 * unit) (omega arith), lt-ltb rest (123 * unit) k, and-true)
 
-    pub byte-high : 123 * unit ≤ rest → ltb rest (127 * unit) ≡ tidyByte low up rest unit
-    unfolding tidyByte
+    pub byte-high : 123 * unit ≤ rest → ltb rest (127 * unit) ≡ storedByte low up rest unit
+    unfolding storedByte
     byte-high k =
         rw (ne-eqb rest 0 (λ z. omega arith), le-leb (32 * unit + low) rest (omega arith), le-leb (97 * unit) rest h, le-ltb rest (123 * unit) k, and-false, and-true)
 
@@ -141,9 +141,9 @@ abbrev good : Bool → ℕ → ℕ → Bool
 good up from b = (leb from b && leb b 126) && not (up && (leb 97 b && leb b 122))
 
 -- each byte is 32..126 and not to be raised; the last is at least 32 + low
-ink : ℕ → Bool → List ℕ → Bool
-ink low up [] = true
-ink low up (b ∷ bs) = good up (32 + cond (isEmpty bs) low 0) b && ink low up bs
+goodText : ℕ → Bool → List ℕ → Bool
+goodText low up [] = true
+goodText low up (b ∷ bs) = good up (32 + cond (isEmpty bs) low 0) b && goodText low up bs
 
 empty-before : (b : ℕ) (t : List ℕ) → isEmpty (beforeZeros b t) ≡ (eqb b 0 && isEmpty t)
 empty-before b t = go (eqb b 0 && isEmpty t)
@@ -164,13 +164,13 @@ empty-text (suc n) r h =
     ∙ rw (empty-text n (r % u) l) (sym (none-left u (r / u) (r % u) l) ∙ rw (div-add-mod' r u))
 
 module _ (low : ℕ) (up : Bool) (l : low ≤ 1) where
-  byte-text : (u b q : ℕ) (t : List ℕ) → q < u → isEmpty t ≡ eqb q 0 → (tidyByte low up (b * u + q) u && ink low up t) ≡ ink low up (beforeZeros b t)
-  unfolding tidyByte ink
+  byte-text : (u b q : ℕ) (t : List ℕ) → q < u → isEmpty t ≡ eqb q 0 → (storedByte low up (b * u + q) u && goodText low up t) ≡ goodText low up (beforeZeros b t)
+  unfolding storedByte goodText
   byte-text u b q [] h e =
       let z : q ≡ 0 = eqb-true q 0 (sym e) in
       rw (none-left u b q h, ← e, reaches-last u b q h low l z, below u b q h 126, reaches u b q h 97, below u b q h 122) (go (eqb b 0))
     where
-      go : (a : Bool) → (((a && true) || good up (32 + low) b) && true) ≡ ink low up (cond (a && true) [] (b ∷ []))
+      go : (a : Bool) → (((a && true) || good up (32 + low) b) && true) ≡ goodText low up (cond (a && true) [] (b ∷ []))
       go true = refl
       go false = refl
   byte-text u b q (c ∷ cs) h e =
@@ -178,30 +178,30 @@ module _ (low : ℕ) (up : Bool) (l : low ≤ 1) where
       rw (none-left u b q h, ← e, and-false (eqb b 0), reaches-more u b q h low l z, below u b q h 126, reaches u b q h 97, below u b q h 122)
 
   -- the test of n bytes by numbers is the test of their text
-  tidy-text : (n r : ℕ) → tidy low up n r ≡ ink low up (withoutZeros (unpacked n r))
-  unfolding tidy withoutZeros unpacked ink
-  tidy-text zero r = refl
-  tidy-text (suc n) r =
+  storedText-good : (n r : ℕ) → storedText low up n r ≡ goodText low up (withoutZeros (unpacked n r))
+  unfolding storedText withoutZeros unpacked goodText
+  storedText-good zero r = refl
+  storedText-good (suc n) r =
       let u = 256 ^ n in
       let p : 0 < u = one-le-pow n 256 (omega arith) in
       let h : r % u < u = mod-lt r p in
-      rw (tidy-text n (r % u)) (ap (λ (x : ℕ). tidyByte low up x u && ink low up (withoutZeros (unpacked n (r % u)))) (sym (div-add-mod' r u))
+      rw (storedText-good n (r % u)) (ap (λ (x : ℕ). storedByte low up x u && goodText low up (withoutZeros (unpacked n (r % u)))) (sym (div-add-mod' r u))
       ∙ byte-text u (r / u) (r % u) (withoutZeros (unpacked n (r % u))) h (empty-text n (r % u) h))
 
-ink-plain : (t : List ℕ) → ink 0 false t ≡ all plain t
-unfolding ink
-ink-plain [] = refl
-ink-plain (b ∷ bs) = rw (ink-plain bs) (go (isEmpty bs))
+goodText-plain : (t : List ℕ) → goodText 0 false t ≡ all plain t
+unfolding goodText
+goodText-plain [] = refl
+goodText-plain (b ∷ bs) = rw (goodText-plain bs) (go (isEmpty bs))
   where
     go : (a : Bool) → (((leb (32 + cond a 0 0) b && leb b 126) && true) && all plain bs) ≡ (plain b && all plain bs)
     go true = rw (and-true (plain b))
     go false = rw (and-true (plain b))
 
-pub packed-text : (r : Bool) (w : ℕ) → r ≡ tidy 0 false 8 w → r ≡ packedText w
+pub packed-text : (r : Bool) (w : ℕ) → r ≡ storedText 0 false 8 w → r ≡ packedText w
 unfolding packedText textOf
-packed-text r w e = e ∙ tidy-text 0 false (omega arith) 8 w ∙ ink-plain (withoutZeros (unpacked 8 w))
+packed-text r w e = e ∙ storedText-good 0 false (omega arith) 8 w ∙ goodText-plain (withoutZeros (unpacked 8 w))
 
--- ---- what the rules keep as it is
+-- ---- what the rules leave unchanged
 
 begins : List ℕ → Bool
 begins [] = true
@@ -242,39 +242,40 @@ ends-trim : (t : List ℕ) → begins (reverse (trim t)) ≡ true
 unfolding trim
 ends-trim t = rw reverse-reverse (begins-trimStart (reverse (trimStart t)))
 
-trim-case : (up : Bool) (t : List ℕ) → trim (inCase up t) ≡ inCase up (trim t)
-trim-case false t = refl
-trim-case true t = trim-raise t
+trim-upperIf : (up : Bool) (t : List ℕ) → trim (upperIf up t) ≡ upperIf up (trim t)
+trim-upperIf false t = refl
+trim-upperIf true t = trim-raise t
 
-all-case : (up : Bool) (t : List ℕ) → all plain t ≡ true → all plain (inCase up t) ≡ true
-all-case false t h = h
-all-case true t h = all-raise t ∙ h
+all-upperIf : (up : Bool) (t : List ℕ) → all plain t ≡ true → all plain (upperIf up t) ≡ true
+all-upperIf false t h = h
+all-upperIf true t h = all-raise t ∙ h
 
--- a text that the rules keep: plain, no blank at its end, and raised where it has to be; and no blank at its start
-record Inked (up : Bool) (t : List ℕ) : Type 0 where
+-- a text that is plain, has no blank at its end, and is raised where it has to be
+record EndTrimmed (up : Bool) (t : List ℕ) : Type 0 where
   plains : all plain t ≡ true
   ends : begins (reverse t) ≡ true
-  case : inCase up t ≡ t
+  case : upperIf up t ≡ t
 
-record Kept (up : Bool) (t : List ℕ) : Type 0 where
-  inked : Inked up t
+-- a text that the rules leave unchanged: it has no blank at its start either
+record Unchanged (up : Bool) (t : List ℕ) : Type 0 where
+  ending : EndTrimmed up t
   starts : begins t ≡ true
 
--- what is stored again of a word's text is kept
-fit-kept : (up : Bool) (w : ℕ) → all plain (trim (textOf w)) ≡ true → fit (inCase up (trim (textOf w))) ≡ Stored w → Kept up (textOf w)
-fit-kept up w p e =
+-- a word's text that is stored as the same word is unchanged
+fit-unchanged : (up : Bool) (w : ℕ) → all plain (trim (textOf w)) ≡ true → fit (upperIf up (trim (textOf w))) ≡ Stored w → Unchanged up (textOf w)
+fit-unchanged up w p e =
     let t = textOf w in
-    let r : t ≡ inCase up (trim t) = fit-text (inCase up (trim t)) w (all-case up (trim t) p) e in
-    let o : trim t ≡ t = ap trim r ∙ trim-case up (trim t) ∙ ap (inCase up) (trim-twice t) ∙ sym r in
-    record { inked = record { plains = rw o at p; ends = rw o at (ends-trim t); case = rw o at (sym r) }; starts = rw o at (begins-trim t) }
+    let r : t ≡ upperIf up (trim t) = fit-text (upperIf up (trim t)) w (all-upperIf up (trim t) p) e in
+    let o : trim t ≡ t = ap trim r ∙ trim-upperIf up (trim t) ∙ ap (upperIf up) (trim-twice t) ∙ sym r in
+    record { ending = record { plains = rw o at p; ends = rw o at (ends-trim t); case = rw o at (sym r) }; starts = rw o at (begins-trim t) }
 
-kept-trim : (up : Bool) (t : List ℕ) → Kept up t → trim t ≡ t
-kept-trim up t k = trim-begins t (k .starts) (k .inked .ends)
+unchanged-trim : (up : Bool) (t : List ℕ) → Unchanged up t → trim t ≡ t
+unchanged-trim up t k = trim-begins t (k .starts) (k .ending .ends)
 
-kept-fit : (up : Bool) (w : ℕ) → Kept up (textOf w) → fit (inCase up (trim (textOf w))) ≡ Stored w
-kept-fit up w k = rw (kept-trim up (textOf w) k, k .inked .case, le-leb (length (textOf w)) 8 (length-textOf w), pack-textOf w)
+unchanged-fit : (up : Bool) (w : ℕ) → Unchanged up (textOf w) → fit (upperIf up (trim (textOf w))) ≡ Stored w
+unchanged-fit up w k = rw (unchanged-trim up (textOf w) k, k .ending .case, le-leb (length (textOf w)) 8 (length-textOf w), pack-textOf w)
 
--- ---- the test says that a text is kept
+-- ---- the test says that a text is unchanged
 
 not-empty : (t : List ℕ) (b : ℕ) → isEmpty (t ++ (b ∷ [])) ≡ false
 not-empty [] b = refl
@@ -300,46 +301,46 @@ byte-good : (up : Bool) (from b : ℕ) → Byte up from b → good up from b ≡
 byte-good up from b h = rw (le-leb from b (h .low), le-leb b 126 (h .high), h .case)
 
 -- a byte's case, and the text's
-case-cons : (up : Bool) (b : ℕ) (bs : List ℕ) → not (up && (leb 97 b && leb b 122)) ≡ true → inCase up bs ≡ bs → inCase up (b ∷ bs) ≡ b ∷ bs
-case-cons false b bs h e = refl
-case-cons true b bs h e = rw e (go (leb 97 b && leb b 122) h)
+upperIf-cons : (up : Bool) (b : ℕ) (bs : List ℕ) → not (up && (leb 97 b && leb b 122)) ≡ true → upperIf up bs ≡ bs → upperIf up (b ∷ bs) ≡ b ∷ bs
+upperIf-cons false b bs h e = refl
+upperIf-cons true b bs h e = rw e (go (leb 97 b && leb b 122) h)
   where
     go : (a : Bool) → not a ≡ true → cond a (b - 32) b ∷ bs ≡ b ∷ bs
     go true h = absurd (false≢true h)
     go false h = refl
 
-case-head : (up : Bool) (b : ℕ) (bs : List ℕ) → inCase up (b ∷ bs) ≡ b ∷ bs → not (up && (leb 97 b && leb b 122)) ≡ true
-case-head false b bs e = refl
-case-head true b bs e = go (leb 97 b && leb b 122) refl (cc)
+upperIf-head : (up : Bool) (b : ℕ) (bs : List ℕ) → upperIf up (b ∷ bs) ≡ b ∷ bs → not (up && (leb 97 b && leb b 122)) ≡ true
+upperIf-head false b bs e = refl
+upperIf-head true b bs e = go (leb 97 b && leb b 122) refl (cc)
   where
     go : (a : Bool) → leb 97 b && leb b 122 ≡ a → cond a (b - 32) b ≡ b → not a ≡ true
     go true h f = let l = leb-true 97 b (and-both (leb 97 b) (leb b 122) h .0) in absurd (omega arith)
     go false h f = refl
 
-case-tail : (up : Bool) (b : ℕ) (bs : List ℕ) → inCase up (b ∷ bs) ≡ b ∷ bs → inCase up bs ≡ bs
-case-tail false b bs e = refl
-case-tail true b bs e = cc
+upperIf-tail : (up : Bool) (b : ℕ) (bs : List ℕ) → upperIf up (b ∷ bs) ≡ b ∷ bs → upperIf up bs ≡ bs
+upperIf-tail false b bs e = refl
+upperIf-tail true b bs e = cc
 
-plain-ink : (b : ℕ) → plain b ≡ true → not (blank b) ≡ true → 33 ≤ b
-plain-ink b p q =
+above-blank : (b : ℕ) → plain b ≡ true → not (blank b) ≡ true → 33 ≤ b
+above-blank b p q =
     let n : b ≡ 32 → ⊥ = λ e. false≢true (rw e at q) in
     omega (arith, plain-is b p .low)
 
-ink-inked : (up : Bool) (t : List ℕ) → ink 1 up t ≡ true → Inked up t
-unfolding ink begins
-ink-inked up [] h = record { plains = refl; ends = refl; case = none up }
+goodText-end : (up : Bool) (t : List ℕ) → goodText 1 up t ≡ true → EndTrimmed up t
+unfolding goodText begins
+goodText-end up [] h = record { plains = refl; ends = refl; case = none up }
   where
-    none : (up : Bool) → inCase up [] ≡ []
+    none : (up : Bool) → upperIf up [] ≡ []
     none true = refl
     none false = refl
-ink-inked up (b ∷ bs) h =
-    let p = and-both (good up (32 + cond (isEmpty bs) 1 0) b) (ink 1 up bs) h in
+goodText-end up (b ∷ bs) h =
+    let p = and-both (good up (32 + cond (isEmpty bs) 1 0) b) (goodText 1 up bs) h in
     let g = good-byte up (32 + cond (isEmpty bs) 1 0) b (p .0) in
-    let i = ink-inked up bs (p .1) in
+    let i = goodText-end up bs (p .1) in
     record {
       plains = rw (plain-from (isEmpty bs) (g .low) (g .high)) (i .plains);
       ends = ends-cons b bs ∙ end (isEmpty bs) (g .low) (i .ends);
-      case = case-cons up b bs (g .case) (i .case);
+      case = upperIf-cons up b bs (g .case) (i .case);
     }
   where
     plain-from : (a : Bool) → 32 + cond a 1 0 ≤ b → b ≤ 126 → plain b ≡ true
@@ -350,57 +351,57 @@ ink-inked up (b ∷ bs) h =
     end true l e = ap not (not-blank b l)
     end false l e = e
 
-inked-ink : (up : Bool) (t : List ℕ) → Inked up t → ink 1 up t ≡ true
-unfolding ink begins
-inked-ink up [] k = refl
-inked-ink up (b ∷ []) k =
+end-goodText : (up : Bool) (t : List ℕ) → EndTrimmed up t → goodText 1 up t ≡ true
+unfolding goodText begins
+end-goodText up [] k = refl
+end-goodText up (b ∷ []) k =
     let p = and-both (plain b) true (k .plains) in
-    rw (byte-good up 33 b (record { low = plain-ink b (p .0) (sym (ends-cons b []) ∙ k .ends); high = plain-is b (p .0) .high; case = case-head up b [] (k .case) }))
-inked-ink up (b ∷ c ∷ cs) k =
+    rw (byte-good up 33 b (record { low = above-blank b (p .0) (sym (ends-cons b []) ∙ k .ends); high = plain-is b (p .0) .high; case = upperIf-head up b [] (k .case) }))
+end-goodText up (b ∷ c ∷ cs) k =
     let p = and-both (plain b) (all plain (c ∷ cs)) (k .plains) in
     let q = plain-is b (p .0) in
-    let i = inked-ink up (c ∷ cs) (record { plains = p .1; ends = sym (ends-cons b (c ∷ cs)) ∙ k .ends; case = case-tail up b (c ∷ cs) (k .case) }) in
-    rw (byte-good up 32 b (record { low = q .low; high = q .high; case = case-head up b (c ∷ cs) (k .case) })) i
+    let i = end-goodText up (c ∷ cs) (record { plains = p .1; ends = sym (ends-cons b (c ∷ cs)) ∙ k .ends; case = upperIf-tail up b (c ∷ cs) (k .case) }) in
+    rw (byte-good up 32 b (record { low = q .low; high = q .high; case = upperIf-head up b (c ∷ cs) (k .case) })) i
 
 -- a text whose first byte is 33 or more isn't empty and starts with no blank
-record Opened (t : List ℕ) : Type 0 where
+record StartTrimmed (t : List ℕ) : Type 0 where
   some : isEmpty t ≡ false
   starts : begins t ≡ true
 
-byte-opened : (b : ℕ) (t : List ℕ) → 33 ≤ b → Opened (beforeZeros b t)
+byte-start : (b : ℕ) (t : List ℕ) → 33 ≤ b → StartTrimmed (beforeZeros b t)
 unfolding begins
-byte-opened b t h = rw (ne-eqb b 0 (omega arith)) (record { some = refl; starts = ap not (not-blank b h) })
+byte-start b t h = rw (ne-eqb b 0 (omega arith)) (record { some = refl; starts = ap not (not-blank b h) })
 
-opened-byte : (b : ℕ) (t : List ℕ) → Opened (beforeZeros b t) → all plain (beforeZeros b t) ≡ true → 33 ≤ b
+start-byte : (b : ℕ) (t : List ℕ) → StartTrimmed (beforeZeros b t) → all plain (beforeZeros b t) ≡ true → 33 ≤ b
 unfolding begins
-opened-byte b t o p = go (eqb b 0 && isEmpty t) (o .some) (o .starts) p
+start-byte b t o p = go (eqb b 0 && isEmpty t) (o .some) (o .starts) p
   where
     go : (a : Bool) → isEmpty (cond a [] (b ∷ t)) ≡ false → begins (cond a [] (b ∷ t)) ≡ true → all plain (cond a [] (b ∷ t)) ≡ true → 33 ≤ b
     go true n s p = absurd (false≢true (sym n))
-    go false n s p = plain-ink b (and-both (plain b) (all plain t) p .0) s
+    go false n s p = above-blank b (and-both (plain b) (all plain t) p .0) s
 
 -- the code's test of a stored word
 abbrev test : Bool → ℕ → Bool
-test up w = leb 0x2100_0000_0000_0000 w && tidy 1 up 8 w
+test up w = leb 0x2100_0000_0000_0000 w && storedText 1 up 8 w
 
 record Passes (up : Bool) (w : ℕ) : Type 0 where
   some : isEmpty (textOf w) ≡ false
-  kept : Kept up (textOf w)
+  unchanged : Unchanged up (textOf w)
 
 test-passes : (up : Bool) (w : ℕ) → test up w ≡ true → Passes up w
 unfolding textOf withoutZeros unpacked
 test-passes up w h =
-    let p = and-both (leb 0x2100_0000_0000_0000 w) (tidy 1 up 8 w) h in
+    let p = and-both (leb 0x2100_0000_0000_0000 w) (storedText 1 up 8 w) h in
     let l = leb-true 0x2100_0000_0000_0000 w (p .0) in
-    let o : Opened (textOf w) = byte-opened (w / 256 ^ 7) (withoutZeros (unpacked 7 (w % 256 ^ 7))) (omega arith) in
-    record { some = o .some; kept = record { inked = ink-inked up (textOf w) (sym (tidy-text 1 up (omega arith) 8 w) ∙ p .1); starts = o .starts } }
+    let o : StartTrimmed (textOf w) = byte-start (w / 256 ^ 7) (withoutZeros (unpacked 7 (w % 256 ^ 7))) (omega arith) in
+    record { some = o .some; unchanged = record { ending = goodText-end up (textOf w) (sym (storedText-good 1 up (omega arith) 8 w) ∙ p .1); starts = o .starts } }
 
 passes-test : (up : Bool) (w : ℕ) → Passes up w → test up w ≡ true
 unfolding textOf withoutZeros unpacked
 passes-test up w k =
-    let o : Opened (textOf w) = record { some = k .some; starts = k .kept .starts } in
-    let l = opened-byte (w / 256 ^ 7) (withoutZeros (unpacked 7 (w % 256 ^ 7))) o (k .kept .inked .plains) in
-    rw (le-leb 0x2100_0000_0000_0000 w (omega arith)) (tidy-text 1 up (omega arith) 8 w ∙ inked-ink up (textOf w) (k .kept .inked))
+    let o : StartTrimmed (textOf w) = record { some = k .some; starts = k .unchanged .starts } in
+    let l = start-byte (w / 256 ^ 7) (withoutZeros (unpacked 7 (w % 256 ^ 7))) o (k .unchanged .ending .plains) in
+    rw (le-leb 0x2100_0000_0000_0000 w (omega arith)) (storedText-good 1 up (omega arith) 8 w ∙ end-goodText up (textOf w) (k .unchanged .ending))
 
 -- ---- the rules
 
@@ -423,14 +424,14 @@ chain-passes w e =
     let t = textOf w in
     let p = stored-where (all plain (trim t) && not (isEmpty (trim t))) (fit (trim t)) Bad w bad-stores-none e in
     let q = and-both (all plain (trim t)) (not (isEmpty (trim t))) (p .0) in
-    let k = fit-kept false w (q .0) (p .1) in
-    record { some = rw (kept-trim false t k) at (not-false (isEmpty (trim t)) (q .1)); kept = k }
+    let k = fit-unchanged false w (q .0) (p .1) in
+    record { some = rw (unchanged-trim false t k) at (not-false (isEmpty (trim t)) (q .1)); unchanged = k }
 
 passes-chain : (w : ℕ) → Passes false w → chainId (textOf w) ≡ Stored w
 unfolding chainId
-passes-chain w k = rw (kept-trim false (textOf w) (k .kept), k .kept .inked .plains, k .some) (rw (kept-trim false (textOf w) (k .kept)) at (kept-fit false w (k .kept)))
+passes-chain w k = rw (unchanged-trim false (textOf w) (k .unchanged), k .unchanged .ending .plains, k .some) (rw (unchanged-trim false (textOf w) (k .unchanged)) at (unchanged-fit false w (k .unchanged)))
 
-pub chain-stored : (w : ℕ) (k : Bool) → k ≡ tidy 1 false 8 w → leb 0x2100_0000_0000_0000 w && k ≡ storedBy chainId w
+pub chain-stored : (w : ℕ) (k : Bool) → k ≡ storedText 1 false 8 w → leb 0x2100_0000_0000_0000 w && k ≡ storedBy chainId w
 chain-stored w k e = rw e (both-ways (test false w) (storedBy chainId w)
     (λ h. stored-again chainId w (passes-chain w (test-passes false w h)))
     (λ h. passes-test false w (chain-passes w (storedBy-rule chainId w h))))
@@ -443,19 +444,19 @@ module _ (other : Prepared) (w : ℕ) (n : (v : ℕ) → other ≡ Stored v → 
       let t = textOf w in
       let p = stored-where (all plain t && not (isEmpty (trim t))) (fit (map raise (trim t))) other w n e in
       let q = and-both (all plain t) (not (isEmpty (trim t))) (p .0) in
-      let k = fit-kept true w (all-trim t (q .0)) (p .1) in
-      record { some = rw (kept-trim true t k) at (not-false (isEmpty (trim t)) (q .1)); kept = k }
+      let k = fit-unchanged true w (all-trim t (q .0)) (p .1) in
+      record { some = rw (unchanged-trim true t k) at (not-false (isEmpty (trim t)) (q .1)); unchanged = k }
 
   passes-raised : Passes true w → raised (textOf w) other ≡ Stored w
   unfolding raised
-  passes-raised k = rw (kept-trim true (textOf w) (k .kept), k .kept .inked .plains, k .some) (rw (kept-trim true (textOf w) (k .kept)) at (kept-fit true w (k .kept)))
+  passes-raised k = rw (unchanged-trim true (textOf w) (k .unchanged), k .unchanged .ending .plains, k .some) (rw (unchanged-trim true (textOf w) (k .unchanged)) at (unchanged-fit true w (k .unchanged)))
 
   raised-stored : test true w ≡ storedBy (λ t. raised t other) w
   raised-stored = both-ways (test true w) (storedBy (λ t. raised t other) w)
       (λ h. stored-again (λ t. raised t other) w (passes-raised (test-passes true w h)))
       (λ h. passes-test true w (raised-passes (storedBy-rule (λ t. raised t other) w h)))
 
-pub name-stored : (w : ℕ) (k : Bool) → k ≡ tidy 1 true 8 w → leb 0x2100_0000_0000_0000 w && k ≡ storedBy conformerName w
+pub name-stored : (w : ℕ) (k : Bool) → k ≡ storedText 1 true 8 w → leb 0x2100_0000_0000_0000 w && k ≡ storedBy conformerName w
 name-stored w k e = rw e (raised-stored Bad w bad-stores-none)
 
 pub code-absent : (w : ℕ) → w ≡ 0 → true ≡ absentOr insertionCode w
@@ -470,7 +471,7 @@ location-stored w r e = e ∙ ap (λ (x : Bool). eqb w 0 || x) (sym (raised-stor
 -- an atom's name may be empty
 passes-atom : (w : ℕ) → Passes true w → atomName (textOf w) ≡ Stored w
 unfolding atomName
-passes-atom w k = rw (kept-trim true (textOf w) (k .kept), k .kept .inked .plains) (rw (kept-trim true (textOf w) (k .kept)) at (kept-fit true w (k .kept)))
+passes-atom w k = rw (unchanged-trim true (textOf w) (k .unchanged), k .unchanged .ending .plains) (rw (unchanged-trim true (textOf w) (k .unchanged)) at (unchanged-fit true w (k .unchanged)))
 
 atom-zero : storedBy atomName 0 ≡ true
 unfolding storedBy atomName textOf withoutZeros unpacked trim trimStart packed
@@ -489,7 +490,7 @@ unfolding atomName
 atom-passes w n e =
     let t = textOf w in
     let p = stored-where (all plain (trim t)) (fit (map raise (trim t))) Bad w bad-stores-none e in
-    record { some = some-text w n; kept = fit-kept true w (p .0) (p .1) }
+    record { some = some-text w n; unchanged = fit-unchanged true w (p .0) (p .1) }
 
 pub atom-stored : (w : ℕ) (r : Bool) → r ≡ absentOr insertionCode w → r ≡ storedBy atomName w
 atom-stored w r e = e ∙ go (eqb w 0) refl

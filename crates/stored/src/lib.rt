@@ -1,13 +1,13 @@
-// Words as they are stored (document 01, "Identifiers" and "Store"): a text as given compared with a stored word, and tests of stored and
-// packed forms.
+// Stored words (document 01, "Identifiers" and "Store"): whether a text as given is the text of a stored word, and whether a word is in the
+// stored form of an identifier.
 ghost use mathlib.Core.Path.{_≡_};
 ghost use Prim.Native.Nat.{_≤_, _^_};
 ghost use Rattle.machine.specs.Text.{chainId, insertionCode, conformerName, alternativeLocation, atomName, matches, matchesOptional, storedBy, absentOr, packedText};
-ghost use Rattle.stored.specs.Word.{tidyByte, tidy};
+ghost use Rattle.stored.specs.Word.{storedByte, storedText};
 
-// ---- texts as given
+// ---- comparing as given
 
-// Byte by byte; an empty text matches nothing, and a zero byte at its end isn't padding.
+// The texts are equal byte by byte. An empty text matches nothing, and a zero byte at the end of a text isn't padding.
 pub fn same_text(text: &[u8], stored: u64) -> bool
     ensures { λ r. ⌜ r ≡ matches (now (text .entry)) stored ⌝ }
 {
@@ -35,13 +35,13 @@ pub fn same_optional(flag: u64, text: &[u8], stored: u64) -> bool
     same_text(text, stored)
 }
 
-// ---- stored words
+// ---- stored and packed forms
 
-// One byte, by the number that is left from it on: no byte is taken out of the word. low is 1 where the last byte may be no blank; up
-// where a..z are raised. Nearly all bytes are below a.
-fn tidy_byte(low: u64, up: bool, rest: u64, unit: u64) -> bool
+// Tests one byte by the number that is left from it on, so no byte is taken out of the word. `low` is 1 where the last byte may be no blank,
+// `up` says that a..z are refused. The first test settles nearly all bytes, which are below a.
+fn stored_byte(low: u64, up: bool, rest: u64, unit: u64) -> bool
     requires { ⌜ (low ≤ 1) × (1 ≤ unit) × (unit ≤ 2 ^ 56) ⌝ }
-    ensures { λ r. ⌜ r ≡ tidyByte low up rest unit ⌝ }
+    ensures { λ r. ⌜ r ≡ storedByte low up rest unit ⌝ }
 {
     if rest < 97 * unit {
         return (rest == 0) | (32 * unit + low <= rest);
@@ -52,10 +52,10 @@ fn tidy_byte(low: u64, up: bool, rest: u64, unit: u64) -> bool
     rest < 127 * unit
 }
 
-// All eight bytes. The loop is over their worth, not over what is left: so its turns are known, and it is compiled without divisions.
-fn tidy_text(low: u64, up: bool, w: u64) -> bool
+// Tests all eight bytes. The loop goes by what a byte is worth and not by what is left, so the compiler knows its turns and needs no division.
+fn stored_text(low: u64, up: bool, w: u64) -> bool
     requires { ⌜ low ≤ 1 ⌝ }
-    ensures { λ r. ⌜ r ≡ tidy low up 8 w ⌝ }
+    ensures { λ r. ⌜ r ≡ storedText low up 8 w ⌝ }
 {
     let mut rest = w;
     let mut unit: u64 = 0x100_0000_0000_0000;
@@ -63,7 +63,7 @@ fn tidy_text(low: u64, up: bool, w: u64) -> bool
         if rest == 0 {
             return true;
         }
-        if tidy_byte(low, up, rest, unit) {
+        if stored_byte(low, up, rest, unit) {
             rest = rest % unit;
             unit = unit / 256;
         } else {
@@ -73,24 +73,24 @@ fn tidy_text(low: u64, up: bool, w: u64) -> bool
     true
 }
 
-// A query's text: packed, every byte 32..126.
+// A text of a query is packed, and every byte is 32..126.
 pub fn packed_text(w: u64) -> bool
     ensures { λ r. ⌜ r ≡ packedText w ⌝ }
 {
-    tidy_text(0, false, w)
+    stored_text(0, false, w)
 }
 
-// From 33 as its first byte on, a word isn't empty and starts with no blank.
+// A word whose first byte is 33 or more isn't empty and starts with no blank.
 pub fn stored_chain_id(w: u64) -> bool
     ensures { λ r. ⌜ r ≡ storedBy chainId w ⌝ }
 {
-    (0x2100_0000_0000_0000 <= w) & tidy_text(1, false, w)
+    (0x2100_0000_0000_0000 <= w) & stored_text(1, false, w)
 }
 
 pub fn stored_name(w: u64) -> bool
     ensures { λ r. ⌜ r ≡ storedBy conformerName w ⌝ }
 {
-    (0x2100_0000_0000_0000 <= w) & tidy_text(1, true, w)
+    (0x2100_0000_0000_0000 <= w) & stored_text(1, true, w)
 }
 
 pub fn stored_code(w: u64) -> bool

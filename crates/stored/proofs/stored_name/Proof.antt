@@ -4,11 +4,11 @@ use borrow.Author.Needs.{needs}
 use Rattle.stored.proofs.stored_name.Statement.{statement}
 use Rattle.stored.proofs.stored_name.Tie as tie
 
-tidy-text-requires : tie.Need-tidy-text-requires
-tidy-text-requires c κs = search needs
+stored-text-requires : tie.Need-stored-text-requires
+stored-text-requires c κs = search needs
 
 returns : tie.Need-returns
 returns c = search (needs, name-stored)
 
 pub stored-name-spec : {M : Type 1} → statement M
-stored-name-spec = tie.close (tie.spec tidy-text-requires returns)
+stored-name-spec = tie.close (tie.spec stored-text-requires returns)

@@ -1,8 +1,8 @@
--- `stored::tidy_text` is `tidy` of eight bytes: one byte to a turn. The measure is the worth of a byte. Assumes nothing.
+-- `stored::stored_text` is `storedText` of eight bytes: one byte to a turn. The measure is the worth of a byte. Assumes nothing.
 use Rattle.stored.proofs.Words.{TextLeft, text-begin, text-all, text-again, text-not, text-done}
 use borrow.Author.Needs.{needs}
-use Rattle.stored.proofs.tidy_text.Statement.{statement}
-use Rattle.stored.proofs.tidy_text.Tie as tie
+use Rattle.stored.proofs.stored_text.Statement.{statement}
+use Rattle.stored.proofs.stored_text.Tie as tie
 
 abbrev Inv-loop : tie.InvT-loop
 Inv-loop low up w rest₀ unit₀ rest unit = TextLeft low up w rest unit
@@ -16,8 +16,8 @@ loop-holds c = search (needs, text-begin)
 returns : tie.Need-returns Inv-loop μ-loop
 returns c = search (needs, text-done)
 
-tidy-byte-requires : tie.Need-tidy-byte-requires Inv-loop μ-loop
-tidy-byte-requires c κs = search needs
+stored-byte-requires : tie.Need-stored-byte-requires Inv-loop μ-loop
+stored-byte-requires c κs = search needs
 
 rem-rest : tie.Need-rem-rest Inv-loop μ-loop
 rem-rest c = search needs
@@ -34,15 +34,15 @@ returns-2 c = search (needs, text-not)
 returns-3 : tie.Need-returns-3 Inv-loop μ-loop
 returns-3 c = search (needs, text-all)
 
-pub tidy-text-spec : {M : Type 1} → statement M
-tidy-text-spec =
+pub stored-text-spec : {M : Type 1} → statement M
+stored-text-spec =
     tie.close
     (tie.spec
     Inv-loop
     μ-loop
     loop-holds
     returns
-    tidy-byte-requires
+    stored-byte-requires
     rem-rest
     loop-less
     loop-again

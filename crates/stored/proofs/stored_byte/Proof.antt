@@ -1,8 +1,8 @@
--- `stored::tidy_byte` is `tidyByte`. Assumes nothing.
+-- `stored::stored_byte` is `storedByte`. Assumes nothing.
 use Rattle.stored.proofs.Words.{byte-low, byte-letter, byte-high}
 use borrow.Author.Needs.{needs}
-use Rattle.stored.proofs.tidy_byte.Statement.{statement}
-use Rattle.stored.proofs.tidy_byte.Tie as tie
+use Rattle.stored.proofs.stored_byte.Statement.{statement}
+use Rattle.stored.proofs.stored_byte.Tie as tie
 
 mul-if1 : tie.Need-mul-if1
 mul-if1 c = search needs
@@ -28,7 +28,7 @@ mul-result-2 c = search needs
 returns-3 : tie.Need-returns-3
 returns-3 c = search (needs, byte-high)
 
-pub tidy-byte-spec : {M : Type 1} → statement M
-tidy-byte-spec =
+pub stored-byte-spec : {M : Type 1} → statement M
+stored-byte-spec =
     tie.close
     (tie.spec mul-if1 mul-result add-result returns mul-if2 returns-2 mul-result-2 returns-3)
