@@ -10,11 +10,11 @@ use lib.Seq.{take-at, drop-at, length-take-le, take-all}
 use lib.Dec.{leb}
 use borrow.Author.Tests.{le-leb, lt-leb}
 use Rattle.machine.specs.Lists.{bind}
-use Rattle.machine.specs.Answer.{ok, refused, editedNumbers}
+use Rattle.machine.specs.Answer.{Result, ok, refused, editedNumbers}
 use Rattle.machine.specs.Text.{Optional, chainId, insertionCode, conformerName, alternativeLocation, atomName, optional}
 use Rattle.machine.specs.Record.{Words, words, finite, goodValues}
 use Rattle.machine.specs.Store.{Branch, Machine, flat, records, stored, capacity, laid, layOut, recordsOf}
-use Rattle.machine.specs.Edit.{NewAtom, accept, prepare, intoChains, replaceAt, fits, addModel, addAtom, relaid}
+use Rattle.machine.specs.Edit.{NewAtom, accept, prepare, intoChains, replaceAt, fits, addModel, addAtom, Change, stepBy}
 use Rattle.machine.specs.declared.Prepared.{Prepared}
 use Rattle.machine.specs.declared.Prepared.the-variants.{Stored, Absent, Bad}
 use Rattle.machine.specs.declared.Name.{Name}
@@ -87,9 +87,10 @@ module _ (w : List ℕ) (g : Good w) (m : Machine) (at : ℕ) (new : List Words)
         sum-append isAtom new (s .post),
       )
 
-  put-full : (x y : ℕ) → x ≡ capacity (length w) → y ≡ length (records (held w)) + length new → x < y
-      → (editedNumbers (Edited.the-variants.Refused NoCapacity), w) ≡ relaid w (held w) (fits (length w) m)
-  put-full x y e f l = rw (lt-leb (length (records m)) (capacity (length w)) (omega (arith, grown)))
+  put-full : (step : Machine → Result Change) → step (held w) ≡ fits (length w) m → (x y : ℕ) → x ≡ capacity (length w) → y ≡ length (records (held w)) + length new → x < y
+      → (editedNumbers (Edited.the-variants.Refused NoCapacity), w) ≡ stepBy w step
+  unfolding stepBy
+  put-full step a x y e f l = rw (g, a, lt-leb (length (records m)) (capacity (length w)) (omega (arith, grown)))
 
   new-twelve : Twelve new
   new-twelve = All-left _ new (s .post) (All-right _ (s .pre) (new ++ s .post) (subst Twelve (s .is) (twelve-words m)))
@@ -109,10 +110,11 @@ module _ (w : List ℕ) (g : Good w) (m : Machine) (at : ℕ) (new : List Words)
       ∙ put-laid (length w) at rs new (twelve-words (held w)) new-twelve put-low (omega (arith, grown))
       ∙ rw (front, back, s .is)
 
-  put-done : (x y : ℕ) (s′ : List ℕ) → x ≡ capacity (length w) → y ≡ length (records (held w)) + length new → y ≤ x → s′ ≡ put at (length (records (held w))) (concat new) w
-      → (editedNumbers (Edited.the-variants.Done 1 0), s′) ≡ relaid w (held w) (fits (length w) m)
-  put-done x y s′ e f l q =
-      rw (le-leb (length (records m)) (capacity (length w)) (omega (arith, grown)), kept-atoms, q, put-words (put-fits x y e f l))
+  put-done : (step : Machine → Result Change) → step (held w) ≡ fits (length w) m → (x y : ℕ) (s′ : List ℕ) → x ≡ capacity (length w) → y ≡ length (records (held w)) + length new → y ≤ x → s′ ≡ put at (length (records (held w))) (concat new) w
+      → (editedNumbers (Edited.the-variants.Done 1 0), s′) ≡ stepBy w step
+  unfolding stepBy
+  put-done step a x y s′ e f l q =
+      rw (g, a, le-leb (length (records m)) (capacity (length w)) (omega (arith, grown)), kept-atoms, q, put-words (put-fits x y e f l))
 
   put-grown : (x y : ℕ) (s′ : List ℕ) → x ≡ capacity (length w) → y ≡ length (records (held w)) + length new → y ≤ x → s′ ≡ put at (length (records (held w))) (concat new) w
       → Grown at new w s′
@@ -231,15 +233,15 @@ module _ (w : List ℕ) (g : Good w) (serial x count : ℕ) (e : x ≡ capacity 
   abbrev model : Branch 4
   model = (record { serial = serial }, [])
 
-  pub model-full : x < count + 1 → (editedNumbers (Edited.the-variants.Refused NoCapacity), w) ≡ relaid w (held w) (addModel (length w) serial (held w))
+  pub model-full : x < count + 1 → (editedNumbers (Edited.the-variants.Refused NoCapacity), w) ≡ stepBy w (addModel (length w) serial)
   unfolding addModel flat
-  model-full l = put-full w g _ _ _ (ins-model (held w) model) x (count + 1) e (rw f) l
+  model-full l = put-full w g _ _ _ (ins-model (held w) model) (addModel (length w) serial) refl x (count + 1) e (rw f) l
 
   pub model-done : (s′ : List ℕ) → count + 1 ≤ x → s′ ≡ put count count (1 ∷ serial ∷ 0 ∷ 0 ∷ 0 ∷ 0 ∷ 0 ∷ 0 ∷ 0 ∷ 0 ∷ 0 ∷ 0 ∷ []) w
-      → (editedNumbers (Edited.the-variants.Done 1 0), s′) ≡ relaid w (held w) (addModel (length w) serial (held w))
+      → (editedNumbers (Edited.the-variants.Done 1 0), s′) ≡ stepBy w (addModel (length w) serial)
   unfolding addModel flat words
   model-done s′ l q =
-      put-done w g _ _ _ (ins-model (held w) model) x (count + 1) s′ e (rw f) l (q ∙ rw f)
+      put-done w g _ _ _ (ins-model (held w) model) (addModel (length w) serial) refl x (count + 1) s′ e (rw f) l (q ∙ rw f)
 
 -- ---- add_atom
 
@@ -293,7 +295,7 @@ module _ (w : List ℕ) (g : Good w) (i start stop : ℕ) (e : span (i ∷ []) (
     atom = given [] residue code [] location [] v
 
     abbrev outcome : List ℕ × List ℕ
-    outcome = relaid w (held w) (intoModel (length w) i atom (preparedOf n) (held w))
+    outcome = stepBy w (intoModel (length w) i atom (preparedOf n))
 
     abbrev after : Machine
     after = replaceAt 0 4 (i ∷ []) ((there .0, intoChains atom (preparedOf n) (there .1)) ∷ []) (held w)
@@ -321,7 +323,7 @@ module _ (w : List ℕ) (g : Good w) (i start stop : ℕ) (e : span (i ∷ []) (
       new-length = omega (arith, lands .depth, length-drop (s .depth) (newColumn n residue v))
 
       pub atom-full : (x : ℕ) → x ≡ capacity (length w) → x < count + 4 - s .depth → (editedNumbers (Edited.the-variants.Refused NoCapacity), w) ≡ outcome
-      atom-full x d l = rw atom-fits (put-full w g after _ _ ins x (count + 4 - s .depth) d new-length l)
+      atom-full x d l = put-full w g after _ _ ins _ atom-fits x (count + 4 - s .depth) d new-length l
 
       module _ (x : ℕ) (d : x ≡ capacity (length w)) (l : count + 4 - s .depth ≤ x) where
         pub atom-room : (col : List ℕ) → 12 * count + length (take (48 - 12 * s .depth) (drop (12 * s .depth) col)) < length w
@@ -332,7 +334,7 @@ module _ (w : List ℕ) (g : Good w) (i start stop : ℕ) (e : span (i ∷ []) (
           new-words = let part = column-part n residue v (s .depth) (omega (arith, lands .depth)) in y ∙ rw (k, part, c)
 
           pub atom-done : (editedNumbers (Edited.the-variants.Done 1 0), s′) ≡ outcome
-          atom-done = rw atom-fits (put-done w g after _ _ ins x (count + 4 - s .depth) s′ d new-length l new-words)
+          atom-done = put-done w g after _ _ ins _ atom-fits x (count + 4 - s .depth) s′ d new-length l new-words
 
           pub atom-moved : (p q : Place.Place) → Known p w → Moves p i start stop (n .chain) residue s q → Known q s′
           atom-moved p q known moves =
@@ -345,11 +347,11 @@ module _ (w : List ℕ) (g : Good w) (i : ℕ) (chain : List ℕ) (residue : ℕ
   asked = given chain residue code conformer location name v
 
   abbrev answer : List ℕ × List ℕ
-  answer = relaid w (held w) (addAtom (length w) i asked (held w))
+  answer = stepBy w (addAtom (length w) i asked)
 
   pub atom-nowhere : r ≡ Span.the-variants.Missing → (editedNumbers (Edited.the-variants.Refused NoPosition), w) ≡ answer
-  unfolding addAtom
-  atom-nowhere m = rw (missing 0 4 (i ∷ []) 0 (held w) (sym e ∙ m))
+  unfolding stepBy addAtom
+  atom-nowhere m = rw (g, missing 0 4 (i ∷ []) 0 (held w) (sym e ∙ m))
 
   module _ (start stop : ℕ) (m : r ≡ Span.the-variants.At start stop) where
     model-spans : span (i ∷ []) (held w) ≡ some (start, stop)
@@ -362,14 +364,14 @@ module _ (w : List ℕ) (g : Good w) (i : ℕ) (chain : List ℕ) (residue : ℕ
       prepared = q
 
       pub atom-unnamed : o ≡ Readied.the-variants.Bad → (editedNumbers (Edited.the-variants.Refused BadIdentifier), w) ≡ answer
-      unfolding addAtom
-      atom-unnamed z = rw (stood w g i start stop model-spans .there, ← prepared, z)
+      unfolding stepBy addAtom
+      atom-unnamed z = rw (g, stood w g i start stop model-spans .there, ← prepared, z)
 
       module _ (n : Names.Names) (z : o ≡ Readied.the-variants.Ready n) (b : Bool) (f : b ≡ goodValues (atomOf v 0)) where
         pub atom-bad : b ≡ false → (editedNumbers (Edited.the-variants.Refused BadValue), w) ≡ answer
-        unfolding addAtom
-        atom-bad t = rw (stood w g i start stop model-spans .there, ← prepared, z, values-only v (n .name), ← f, t)
+        unfolding stepBy addAtom
+        atom-bad t = rw (g, stood w g i start stop model-spans .there, ← prepared, z, values-only v (n .name), ← f, t)
 
-        pub atom-ready : {x : List ℕ × List ℕ} → b ≡ true → x ≡ relaid w (held w) (intoModel (length w) i (given [] residue code [] location [] v) (preparedOf n) (held w)) → x ≡ answer
-        unfolding addAtom intoModel
-        atom-ready t a = a ∙ rw (stood w g i start stop model-spans .there, ← prepared, z, values-only v (n .name), ← f, t)
+        pub atom-ready : {x : List ℕ × List ℕ} → b ≡ true → x ≡ stepBy w (intoModel (length w) i (given [] residue code [] location [] v) (preparedOf n)) → x ≡ answer
+        unfolding stepBy addAtom intoModel
+        atom-ready t a = a ∙ rw (g, stood w g i start stop model-spans .there, ← prepared, z, values-only v (n .name), ← f, t)

@@ -9,7 +9,7 @@ ghost use Rattle.machine.specs.Record.{goodValues};
 ghost use Rattle.machine.specs.Store.{capacity};
 ghost use mathlib.Core.List.{[], _∷_};
 ghost use mathlib.Core.Option.{some};
-ghost use Rattle.machine.specs.Edit.{prepare, addModel, addAtom, relaid};
+ghost use Rattle.machine.specs.Edit.{prepare, addModel, addAtom, stepBy};
 ghost use Rattle.seek.specs.Seek.{Good, held, span};
 ghost use Rattle.places.specs.Place.{Known};
 ghost use Rattle.additions.specs.Add.{atomOf, given, named, wordOf, preparedOf, resultOf, columnWords, put, intoModel};
@@ -180,7 +180,7 @@ fn put_records(store: &mut [u64], at: usize, count: usize, new: &[u64])
 // Appended, with the serial given.
 pub fn add_model(store: &mut [u64], serial: u64) -> Edited
     requires { ⌜ Good (now store) ⌝ }
-    ensures { λ r. ⌜ (editedNumbers r, now (store .exit)) ≡ relaid (now (store .entry)) (held (now (store .entry))) (addModel (length (now (store .entry))) serial (held (now (store .entry)))) ⌝ }
+    ensures { λ r. ⌜ (editedNumbers r, now (store .exit)) ≡ stepBy (now (store .entry)) (addModel (length (now (store .entry))) serial) ⌝ }
 {
     let count = seek::record_count(store);
     if capacity_of(store) < count + 1 {
@@ -216,7 +216,7 @@ fn put_atom(
     requires { ⌜ Known place (now store) ⌝ }
     requires { ⌜ span (model ∷ []) (held (now store)) ≡ some (start, end) ⌝ }
     ensures { λ r. ⌜ Known (r .place) (now (store .exit)) ⌝ }
-    ensures { λ r. ⌜ (editedNumbers (r .edited), now (store .exit)) ≡ relaid (now (store .entry)) (held (now (store .entry))) (intoModel (length (now (store .entry))) model (given [] residue (optionalOf «code_flag» (now (code .entry))) [] (optionalOf «location_flag» (now (location .entry))) [] values) (preparedOf names) (held (now (store .entry)))) ⌝ }
+    ensures { λ r. ⌜ (editedNumbers (r .edited), now (store .exit)) ≡ stepBy (now (store .entry)) (intoModel (length (now (store .entry))) model (given [] residue (optionalOf «code_flag» (now (code .entry))) [] (optionalOf «location_flag» (now (location .entry))) [] values) (preparedOf names)) ⌝ }
 {
     let count = seek::record_count(store);
     let spot = places::spot_of(
@@ -267,7 +267,7 @@ pub fn add_atom_at(
     requires { ⌜ Good (now store) ⌝ }
     requires { ⌜ Known place (now store) ⌝ }
     ensures { λ r. ⌜ Known (r .place) (now (store .exit)) ⌝ }
-    ensures { λ r. ⌜ (editedNumbers (r .edited), now (store .exit)) ≡ relaid (now (store .entry)) (held (now (store .entry))) (addAtom (length (now (store .entry))) model (given (now (chain .entry)) residue (optionalOf «code_flag» (now (code .entry))) (now (conformer .entry)) (optionalOf «location_flag» (now (location .entry))) (now (name .entry)) values) (held (now (store .entry)))) ⌝ }
+    ensures { λ r. ⌜ (editedNumbers (r .edited), now (store .exit)) ≡ stepBy (now (store .entry)) (addAtom (length (now (store .entry))) model (given (now (chain .entry)) residue (optionalOf «code_flag» (now (code .entry))) (now (conformer .entry)) (optionalOf «location_flag» (now (location .entry))) (now (name .entry)) values)) ⌝ }
 {
     let Span::At(start, end) = places::model_span(store, place, model) else {
         return Added {
@@ -326,7 +326,7 @@ pub fn add_atom(
     values: NewAtom,
 ) -> Edited
     requires { ⌜ Good (now store) ⌝ }
-    ensures { λ r. ⌜ (editedNumbers r, now (store .exit)) ≡ relaid (now (store .entry)) (held (now (store .entry))) (addAtom (length (now (store .entry))) model (given (now (chain .entry)) residue (optionalOf «code_flag» (now (code .entry))) (now (conformer .entry)) (optionalOf «location_flag» (now (location .entry))) (now (name .entry)) values) (held (now (store .entry)))) ⌝ }
+    ensures { λ r. ⌜ (editedNumbers r, now (store .exit)) ≡ stepBy (now (store .entry)) (addAtom (length (now (store .entry))) model (given (now (chain .entry)) residue (optionalOf «code_flag» (now (code .entry))) (now (conformer .entry)) (optionalOf «location_flag» (now (location .entry))) (now (name .entry)) values)) ⌝ }
 {
     let added = add_atom_at(
         store,

@@ -1,7 +1,7 @@
 -- The loops over a text's bytes, a call's parts and a list's calls; the table of the calls. Assumes nothing.
 use Prim.Native.Nat.{ℕ, zero, suc, _+_, _-_, _≤_, _<_}
 use mathlib.Core.Path.{_≡_, refl, sym, ap, _∙_}
-use mathlib.Core.Bool.{Bool, true, false, _&&_, _||_, cond, and-false}
+use mathlib.Core.Bool.{Bool, true, false, _&&_, cond, and-false}
 use mathlib.Core.List.{List, [], _∷_, map}
 use mathlib.Core.Option.{Option, none, some, Option·map}
 use native.Mathlib.Omega.{arith}
@@ -9,10 +9,9 @@ use native.Mathlib.Numerals.{add-one}
 use lib.ListN.{length, getD, take, drop, length-drop, drop-of-length-le}
 use lib.Seq.{getD-drop, drop-drop, drop-cons}
 use lib.Dec.{leb, eqb}
-use borrow.Author.Tests.{le-leb, lt-leb, lt-ltb, le-ltb, ne-eqb, eqb-true, eqb-false}
+use borrow.Author.Tests.{le-leb, lt-leb, lt-ltb, le-ltb, eqb-true, eqb-false}
 use Rattle.machine.specs.Lists.{all, andThen}
 use Rattle.machine.specs.Edit.{Call}
-use Rattle.laws.specs.Lists.{and-both}
 use Rattle.calls.specs.Format.{Row, rows, noRow, rowOf, shapeOf, isCode, isByte, numbersIn, textsIn, treesIn, partsIn, goodPart, readParts, readCall, longest, readCalls}
 use Rattle.calls.specs.Counted.{isSome, countedOf}
 use Rattle.calls.proofs.Reading.{call-fold, calls-none, calls-fold}

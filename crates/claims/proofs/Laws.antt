@@ -1,6 +1,6 @@
 -- A tree that is put together, and the whole run. Assumes nothing.
 use Prim.Native.Nat.{ℕ, _+_, _≤_, _<_}
-use mathlib.Core.Path.{_≡_, refl, sym, ap, _∙_}
+use mathlib.Core.Path.{_≡_, refl, ap, _∙_}
 use mathlib.Core.Bool.{and-false}
 use mathlib.Core.List.{List, [], _∷_, _++_, append-assoc}
 use native.Mathlib.Omega.{arith}
@@ -14,7 +14,7 @@ use Rattle.machine.specs.Find.{hitsIn, hitsOf, written, findRun}
 use Rattle.machine.specs.declared.Refusal.the-variants.{TreeShape}
 use Rattle.moves.specs.Over.{over}
 use Rattle.moves.proofs.Laws.{over-over}
-use Rattle.edits.specs.Apply.{Run, applyRun}
+use Rattle.edits.specs.Apply.{applyRun}
 use Rattle.claims.specs.Claim.{Runs, Seen, Claims, findRuns, wholeRun}
 use Rattle.claims.proofs.Whole.{whole-claims}
 

@@ -1,23 +1,23 @@
 -- The facts hold of what the whole run leaves: they are those of `demand3`, at the list's calls and the five runs. Assumes nothing.
-use Prim.Native.Nat.{ℕ, zero, suc, _+_, _*_}
-use mathlib.Core.Path.{_≡_, refl, sym, ap, _∙_}
-use mathlib.Core.Bool.{Bool, true, false, cond, false≢true}
+use Prim.Native.Nat.{ℕ, _+_, _*_}
+use mathlib.Core.Path.{_≡_, refl, sym, _∙_}
+use mathlib.Core.Bool.{Bool, true, false, false≢true}
 use mathlib.Core.List.{List, [], _∷_, _++_, append-assoc}
 use mathlib.Core.Option.{Option, none, some}
-use lib.ListN.{length, drop}
+use lib.ListN.{length}
 use lib.Seq.{take-at, drop-at}
 use lib.Dec.{leb}
 use Rattle.machine.specs.Lists.{bind}
 use Rattle.machine.specs.Answer.{Result, ok, refused}
 use Rattle.machine.specs.Store.{Machine, readStore, openRun}
 use Rattle.machine.specs.Query.{andTree, orTree, notTree}
-use Rattle.machine.specs.Edit.{Call, Change, machineStep, answer, next, machineAfter, machineAnswers, storeAfter, storeAnswers}
+use Rattle.machine.specs.Edit.{Call, Change, machineStep, answer, next, machineAnswers, storeAfter, storeAnswers}
 use Rattle.machine.specs.Demand.{accepts, Accepted}
 use Rattle.laws.specs.Steps.{refusal-number}
 use Rattle.calls.specs.Format.{readCalls}
 use Rattle.edits.specs.Apply.{Run, answered, runCalls, runRead, applyRun}
-use Rattle.demands.specs.Demand.{after, answers, machine, run, Demand3, demand3}
-use Rattle.claims.specs.Claim.{Seen, threes, Lists, Facts, Claim, Claims, wholeRun}
+use Rattle.demands.specs.Demand.{answers, machine, run, demand3}
+use Rattle.claims.specs.Claim.{threes, Lists, Claims, wholeRun}
 
 -- ---- the list
 

@@ -12,7 +12,7 @@ use Rattle.machine.specs.Store.{Machine, records, stored, layOut, goodLength, r
 use Rattle.machine.specs.Kleene.{notT, isHit, isUndecided}
 use Rattle.machine.specs.Query.{tables, andTree, orTree, notTree}
 use Rattle.machine.specs.Find.{Site, atomsOf, valueAt, hitsIn, findRun}
-use Rattle.machine.specs.Edit.{Call, Change, machineStep, answer, next, relaid, storeStep, machineAfter, machineAnswers, storeAfter, storeAnswers}
+use Rattle.machine.specs.Edit.{Call, Change, machineStep, answer, next, stepBy, storeStep, machineAfter, machineAnswers, storeAfter, storeAnswers}
 use Rattle.machine.specs.Demand.{added, removed, Accepted, count, list, listed, shared, atomNumber, Rising, undecided}
 use Rattle.laws.specs.Counting.{those-same, those-all, those-both, Keyed, keyed-those, shared-those, any-those, rises-rising}
 use Rattle.laws.specs.Good.{Fit}
@@ -67,13 +67,14 @@ module _ (w : List ℕ) (calls : List Call) where
 
 -- one call on the words of a machine that fits
 module _ (n : ℕ) (m : Machine) (c : Call) (g : goodLength n ≡ true) (f : Fit n m) where
-  relay : (r : Result Change) → relaid (layOut n m) m r ≡ (answer m r, layOut n (next m r))
-  relay (ok x) = rw (layOut-length n m (fit-words n m g f))
-  relay (refused e) = refl
+  step-laid : (step : Machine → Result Change) (r : Result Change) → step m ≡ r → stepBy (layOut n m) step ≡ (answer m r, layOut n (next m r))
+  unfolding stepBy
+  step-laid step (ok x) e = rw (read-layOut n m g f, e, layOut-length n m (fit-words n m g f))
+  step-laid step (refused x) e = rw (read-layOut n m g f, e)
 
   pub store-step : storeStep (layOut n m) c ≡ (answer m (machineStep n m c), layOut n (next m (machineStep n m c)))
   unfolding storeStep
-  store-step = rw (read-layOut n m g f, layOut-length n m (fit-words n m g f)) (relay (machineStep n m c))
+  store-step = step-laid (λ x. machineStep (length (layOut n m)) x c) (machineStep n m c) (rw (layOut-length n m (fit-words n m g f)))
 
 -- the whole list
 pub record Steps (n : ℕ) (m : Machine) (calls : List Call) : Type 0 where

@@ -15,7 +15,7 @@ use Rattle.laws.specs.Lists.{and-both}
 use Rattle.calls.specs.Counted.{isSome}
 use Rattle.calls.specs.Format.{rows, numbersIn, treesIn, partsIn, isByte, goodPart, readParts, callOf, readCall}
 use Rattle.calls.proofs.Reading.{parts-step, parts-none, call-parts}
-use Rattle.dispatch.specs.Step.{lowByte, Narrowed, partEnd}
+use Rattle.dispatch.specs.Words.{lowByte, Narrowed, partEnd}
 
 -- ---- words as bytes
 

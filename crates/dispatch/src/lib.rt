@@ -1,14 +1,16 @@
 // One call of a list of edits: its words are decoded, and its core is run. The store is known to be good, and the words to be a call.
 ghost use mathlib.Core.Path.{_≡_};
 ghost use mathlib.Core.Bool.{true};
+ghost use mathlib.Core.Option.{some, Option·map};
 ghost use Prim.Native.Nat.{_+_, _≤_};
 ghost use lib.ListN.{length};
 ghost use Rattle.machine.specs.Answer.{editedNumbers};
+ghost use Rattle.machine.specs.Edit.{storeStep};
 ghost use Rattle.seek.specs.Seek.{Good};
 ghost use Rattle.places.specs.Place.{Known};
 ghost use Rattle.calls.specs.Counted.{isSome};
 ghost use Rattle.calls.specs.Format.{readCall};
-ghost use Rattle.dispatch.specs.Step.{stepOf, partEnd, Narrowed, valuesIn};
+ghost use Rattle.dispatch.specs.Words.{partEnd, Narrowed, valuesIn};
 use additions::Added;
 use additions::NewAtom;
 use machine::Edited;
@@ -61,7 +63,7 @@ pub fn add_atom(store: &mut [u64], place: Place, words: &[u64], bytes: &[u8]) ->
     requires { ⌜ isSome (readCall 2 (now words)) ≡ true ⌝ }
     requires { ⌜ Narrowed (now words) (now bytes) ⌝ }
     ensures { λ r. ⌜ Known (r .place) (now (store .exit)) ⌝ }
-    ensures { λ r. ⌜ (editedNumbers (r .edited), now (store .exit)) ≡ stepOf (now (store .entry)) (readCall 2 (now (words .entry))) ⌝ }
+    ensures { λ r. ⌜ some (editedNumbers (r .edited), now (store .exit)) ≡ Option·map (storeStep (now (store .entry))) (readCall 2 (now (words .entry))) ⌝ }
 {
     let chain = part_end(words, 13);
     let code = part_end(words, chain);
@@ -88,7 +90,7 @@ fn remove_chain_by_id(store: &mut [u64], words: &[u64], bytes: &[u8]) -> Edited
     requires { ⌜ Good (now store) ⌝ }
     requires { ⌜ isSome (readCall 7 (now words)) ≡ true ⌝ }
     requires { ⌜ Narrowed (now words) (now bytes) ⌝ }
-    ensures { λ r. ⌜ (editedNumbers r, now (store .exit)) ≡ stepOf (now (store .entry)) (readCall 7 (now (words .entry))) ⌝ }
+    ensures { λ r. ⌜ some (editedNumbers r, now (store .exit)) ≡ Option·map (storeStep (now (store .entry))) (readCall 7 (now (words .entry))) ⌝ }
 {
     let id = part_end(words, 1);
     removals::remove_chain_by_id(store, words[0], &bytes[2..id])
@@ -98,7 +100,7 @@ fn remove_residue_by_id(store: &mut [u64], words: &[u64], bytes: &[u8]) -> Edite
     requires { ⌜ Good (now store) ⌝ }
     requires { ⌜ isSome (readCall 8 (now words)) ≡ true ⌝ }
     requires { ⌜ Narrowed (now words) (now bytes) ⌝ }
-    ensures { λ r. ⌜ (editedNumbers r, now (store .exit)) ≡ stepOf (now (store .entry)) (readCall 8 (now (words .entry))) ⌝ }
+    ensures { λ r. ⌜ some (editedNumbers r, now (store .exit)) ≡ Option·map (storeStep (now (store .entry))) (readCall 8 (now (words .entry))) ⌝ }
 {
     let code = part_end(words, 4);
     removals::remove_residue_by_id(
@@ -115,7 +117,7 @@ fn remove_conformer_by_id(store: &mut [u64], words: &[u64], bytes: &[u8]) -> Edi
     requires { ⌜ Good (now store) ⌝ }
     requires { ⌜ isSome (readCall 9 (now words)) ≡ true ⌝ }
     requires { ⌜ Narrowed (now words) (now bytes) ⌝ }
-    ensures { λ r. ⌜ (editedNumbers r, now (store .exit)) ≡ stepOf (now (store .entry)) (readCall 9 (now (words .entry))) ⌝ }
+    ensures { λ r. ⌜ some (editedNumbers r, now (store .exit)) ≡ Option·map (storeStep (now (store .entry))) (readCall 9 (now (words .entry))) ⌝ }
 {
     let name = part_end(words, 4);
     let location = part_end(words, name);
@@ -135,7 +137,7 @@ fn remove_conformer_by_id(store: &mut [u64], words: &[u64], bytes: &[u8]) -> Edi
 fn add_model(store: &mut [u64], words: &[u64]) -> Edited
     requires { ⌜ Good (now store) ⌝ }
     requires { ⌜ isSome (readCall 1 (now words)) ≡ true ⌝ }
-    ensures { λ r. ⌜ (editedNumbers r, now (store .exit)) ≡ stepOf (now (store .entry)) (readCall 1 (now (words .entry))) ⌝ }
+    ensures { λ r. ⌜ some (editedNumbers r, now (store .exit)) ≡ Option·map (storeStep (now (store .entry))) (readCall 1 (now (words .entry))) ⌝ }
 {
     additions::add_model(store, words[0])
 }
@@ -145,7 +147,7 @@ fn remove_at(store: &mut [u64], code: u64, words: &[u64]) -> Edited
     requires { ⌜ Good (now store) ⌝ }
     requires { ⌜ isSome (readCall code (now words)) ≡ true ⌝ }
     requires { ⌜ (3 ≤ code) × (code ≤ 6) ⌝ }
-    ensures { λ r. ⌜ (editedNumbers r, now (store .exit)) ≡ stepOf (now (store .entry)) (readCall code (now (words .entry))) ⌝ }
+    ensures { λ r. ⌜ some (editedNumbers r, now (store .exit)) ≡ Option·map (storeStep (now (store .entry))) (readCall code (now (words .entry))) ⌝ }
 {
     removals::remove_at(store, words)
 }
@@ -153,7 +155,7 @@ fn remove_at(store: &mut [u64], code: u64, words: &[u64]) -> Edited
 fn remove_atom_by_serial_number(store: &mut [u64], words: &[u64]) -> Edited
     requires { ⌜ Good (now store) ⌝ }
     requires { ⌜ isSome (readCall 10 (now words)) ≡ true ⌝ }
-    ensures { λ r. ⌜ (editedNumbers r, now (store .exit)) ≡ stepOf (now (store .entry)) (readCall 10 (now (words .entry))) ⌝ }
+    ensures { λ r. ⌜ some (editedNumbers r, now (store .exit)) ≡ Option·map (storeStep (now (store .entry))) (readCall 10 (now (words .entry))) ⌝ }
 {
     removals::remove_atom_by_serial_number(store, words[0], words[1], words[2], words[3], words[4])
 }
@@ -161,7 +163,7 @@ fn remove_atom_by_serial_number(store: &mut [u64], words: &[u64]) -> Edited
 fn remove_atoms_by(store: &mut [u64], words: &[u64]) -> Edited
     requires { ⌜ Good (now store) ⌝ }
     requires { ⌜ isSome (readCall 11 (now words)) ≡ true ⌝ }
-    ensures { λ r. ⌜ (editedNumbers r, now (store .exit)) ≡ stepOf (now (store .entry)) (readCall 11 (now (words .entry))) ⌝ }
+    ensures { λ r. ⌜ some (editedNumbers r, now (store .exit)) ≡ Option·map (storeStep (now (store .entry))) (readCall 11 (now (words .entry))) ⌝ }
 {
     selections::remove_atoms_by(store, words[0], &words[2..])
 }
@@ -169,7 +171,7 @@ fn remove_atoms_by(store: &mut [u64], words: &[u64]) -> Edited
 fn remove_empty(store: &mut [u64], words: &[u64]) -> Edited
     requires { ⌜ Good (now store) ⌝ }
     requires { ⌜ isSome (readCall 12 (now words)) ≡ true ⌝ }
-    ensures { λ r. ⌜ (editedNumbers r, now (store .exit)) ≡ stepOf (now (store .entry)) (readCall 12 (now (words .entry))) ⌝ }
+    ensures { λ r. ⌜ some (editedNumbers r, now (store .exit)) ≡ Option·map (storeStep (now (store .entry))) (readCall 12 (now (words .entry))) ⌝ }
 {
     prunings::remove_empty(store, words[0])
 }
@@ -179,7 +181,7 @@ fn join(store: &mut [u64], code: u64, words: &[u64]) -> Edited
     requires { ⌜ Good (now store) ⌝ }
     requires { ⌜ isSome (readCall code (now words)) ≡ true ⌝ }
     requires { ⌜ 13 ≤ code ⌝ }
-    ensures { λ r. ⌜ (editedNumbers r, now (store .exit)) ≡ stepOf (now (store .entry)) (readCall code (now (words .entry))) ⌝ }
+    ensures { λ r. ⌜ some (editedNumbers r, now (store .exit)) ≡ Option·map (storeStep (now (store .entry))) (readCall code (now (words .entry))) ⌝ }
 {
     let end = words.len();
     let half = end / 2;
@@ -194,7 +196,7 @@ pub fn run_call(store: &mut [u64], code: u64, words: &[u64], bytes: &[u8]) -> Ed
     requires { ⌜ (code ≡ 2 → ⊥) ⌝ }
     requires { ⌜ isSome (readCall code (now words)) ≡ true ⌝ }
     requires { ⌜ Narrowed (now words) (now bytes) ⌝ }
-    ensures { λ r. ⌜ (editedNumbers r, now (store .exit)) ≡ stepOf (now (store .entry)) (readCall code (now (words .entry))) ⌝ }
+    ensures { λ r. ⌜ some (editedNumbers r, now (store .exit)) ≡ Option·map (storeStep (now (store .entry))) (readCall code (now (words .entry))) ⌝ }
 {
     match code {
         1 => add_model(store, words),

@@ -3,7 +3,7 @@ use Prim.Native.Nat.{ℕ, suc, _+_, _-_, _*_, _/_, _≤_, _<_}
 use mathlib.Core.Path.{_≡_, refl, sym, ap, _∙_}
 use mathlib.Core.Bool.{true}
 use mathlib.Core.List.{List, [], _∷_, _++_}
-use mathlib.Core.Option.{Option, none, some}
+use mathlib.Core.Option.{Option, none, some, Option·map}
 use native.Mathlib.Nat.{add-zero}
 use native.Mathlib.Omega.{arith}
 use lib.ListN.{length, getD, take, drop, length-append, length-take, length-drop}
@@ -12,7 +12,7 @@ use borrow.Author.Tests.{le-leb, lt-leb}
 use Rattle.machine.specs.Lists.{bind}
 use Rattle.machine.specs.Answer.{Result, ok, refused, editedNumbers, editFields}
 use Rattle.machine.specs.Store.{Machine, readStore}
-use Rattle.machine.specs.Edit.{Call, Change, relaid, machineStep, stepRead, storeStep, storeAfter, storeAnswers}
+use Rattle.machine.specs.Edit.{Call, Change, stepBy, storeStep, storeAfter, storeAnswers}
 use Rattle.machine.specs.declared.Edited.{Edited}
 use Rattle.machine.specs.declared.Refusal.{Refusal}
 use Rattle.machine.specs.declared.EditAnswer.{EditAnswer}
@@ -27,7 +27,6 @@ use Rattle.calls.specs.Counted.{isSome, countedOf}
 use Rattle.calls.specs.declared.Counted as Counted
 use Rattle.calls.specs.Format.{readCall, readCalls}
 use Rattle.calls.proofs.Reading.{calls-none, calls-step}
-use Rattle.dispatch.specs.Step.{stepOf}
 use Rattle.dispatch.proofs.Texts.{some-of}
 use Rattle.edits.specs.Apply.{appliedNumbers, Run, ran, answered, applied, runCalls, applyRun, callsOf}
 use Rattle.edits.specs.declared.Applied as Applied
@@ -37,17 +36,20 @@ use Rattle.edits.specs.declared.Applied as Applied
 pub answer-put : (out out₀ : List ℕ) (at : ℕ) (e : EditAnswer) (d : Edited) → editFields e ≡ editedNumbers d → out ≡ over at (editFields e) out₀ → out ≡ over at (editedNumbers d) out₀
 answer-put out out₀ at e d q r = r ∙ ap (λ (l : List ℕ). over at l out₀) q
 
+module _ (w : List ℕ) (step : Machine → Result Change) where
+  three-of : (m : Machine) → readStore w ≡ ok m → (r : Result Change) → step m ≡ r → length (stepBy w step .0) ≡ 3
+  unfolding stepBy
+  three-of m g (ok x) e = rw (g, e)
+  three-of m g (refused x) e = rw (g, e)
+
+  three-by : (r : Result Machine) → readStore w ≡ r → length (stepBy w step .0) ≡ 3
+  unfolding stepBy
+  three-by (ok m) g = three-of m g (step m) refl
+  three-by (refused x) g = rw g
+
 step-three : (w : List ℕ) (c : Call) → length (storeStep w c .0) ≡ 3
 unfolding storeStep
-step-three w c = go (readStore w)
-  where
-    laid : (m : Machine) (r : Result Change) → length (relaid w m r .0) ≡ 3
-    laid m (ok x) = refl
-    laid m (refused e) = refl
-
-    go : (r : Result Machine) → length (stepRead w c r .0) ≡ 3
-    go (ok m) = laid m (machineStep (length w) m c)
-    go (refused e) = refl
+step-three w c = three-by w _ (readStore w) refl
 
 abbrev wordsOf : List (List ℕ) → List ℕ
 wordsOf answers = bind (λ (a : List ℕ). a) answers
@@ -139,12 +141,13 @@ module _ {w₀ out₀ list w out : List ℕ} {at done : ℕ} (g : Going w₀ out
     answer-room = omega (arith, count-calls, g .room)
 
     pub going-turn : (w′ out′ : List ℕ) (r : Edited)
-        → (editedNumbers r, w′) ≡ stepOf w (readCall (getD list at 0) (take (at + 2 + getD list (at + 1) 0 - (at + 2)) (drop (at + 2) list)))
+        → some (editedNumbers r, w′) ≡ Option·map (storeStep w) (readCall (getD list at 0) (take (at + 2 + getD list (at + 1) 0 - (at + 2)) (drop (at + 2) list)))
         → out′ ≡ over done (editedNumbers r) out → Going w₀ out₀ list w′ out′ (at + 2 + getD list (at + 1) 0) (done + 3)
     unfolding storeAfter storeAnswers
     going-turn w′ out′ r e o =
         let n = next-of in
-        let s : (editedNumbers r, w′) ≡ storeStep w (n .call) = e ∙ ap (stepOf w) (n .reads) in
+        let q = n .reads in
+        let s : (editedNumbers r, w′) ≡ storeStep w (n .call) = cc in
         let a : editedNumbers r ≡ storeStep w (n .call) .0 = ap (λ p. p .0) s in
         let b : w′ ≡ storeStep w (n .call) .1 = ap (λ p. p .1) s in
         let three : length (editedNumbers r) ≡ 3 = ap length a ∙ step-three w (n .call) in

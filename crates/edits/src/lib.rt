@@ -2,15 +2,16 @@
 // insertion point, so a list in file order does not rescan the model.
 ghost use mathlib.Core.Path.{_≡_};
 ghost use mathlib.Core.Bool.{true};
+ghost use mathlib.Core.Option.{some, Option·map};
 ghost use Prim.Native.Nat.{_+_, _*_, _≤_};
 ghost use lib.ListN.{length};
 ghost use Rattle.machine.specs.Answer.{editedNumbers};
+ghost use Rattle.machine.specs.Edit.{storeStep};
 ghost use Rattle.moves.specs.Over.{over};
 ghost use Rattle.seek.specs.Seek.{Good};
 ghost use Rattle.places.specs.Place.{Known};
 ghost use Rattle.calls.specs.Counted.{isSome};
 ghost use Rattle.calls.specs.Format.{readCall, readCalls};
-ghost use Rattle.dispatch.specs.Step.{stepOf};
 ghost use Rattle.edits.specs.Apply.{appliedNumbers, callsOf, applied, ran, runCalls, applyRun};
 use additions::Added;
 use calls::Counted;
@@ -35,7 +36,7 @@ fn apply_call(store: &mut [u64], place: Place, code: u64, words: &[u64], bytes: 
     requires { ⌜ isSome (readCall code (now words)) ≡ true ⌝ }
     requires { ⌜ length (now words) ≤ length (now bytes) ⌝ }
     ensures { λ r. ⌜ Known (r .place) (now (store .exit)) ⌝ }
-    ensures { λ r. ⌜ (editedNumbers (r .edited), now (store .exit)) ≡ stepOf (now (store .entry)) (readCall code (now (words .entry))) ⌝ }
+    ensures { λ r. ⌜ some (editedNumbers (r .edited), now (store .exit)) ≡ Option·map (storeStep (now (store .entry))) (readCall code (now (words .entry))) ⌝ }
 {
     dispatch::narrow(words, bytes);
     if code == 2 {

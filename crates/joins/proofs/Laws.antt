@@ -19,7 +19,7 @@ use Rattle.laws.specs.Places as places
 use Rattle.seek.specs.Seek.{spanAt, spanOn, span, spanOf}
 use Rattle.seek.specs.Laws.{at-span, Stands, stands, missing, Stood, span-some, spot-length, span-inj}
 use Rattle.seek.specs.declared.Span as Span
-use Rattle.joins.specs.Join.{joinOn, join, cutTurned}
+use Rattle.joins.specs.Join.{joinOn, cutTurned}
 use Rattle.joins.proofs.Shift.{Apart, later, earlier, apart}
 use Rattle.joins.proofs.Blocks.{Turned, turned}
 
@@ -226,6 +226,6 @@ on-level (suc (suc (suc zero))) lo hi a b la lb m = rules 2 1 a b la lb m
 on-level (suc (suc (suc (suc zero)))) lo hi a b la lb m = rules 3 0 a b la lb m
 on-level (suc (suc (suc (suc (suc n))))) lo hi a b la lb m = absurd (omega arith)
 
-pub join-rules : (a b : List ℕ) (m : Machine) → 1 ≤ length a → length a ≤ 4 → length a ≡ length b → Rules records stored m (span a m) (span b m) (join a b m)
+pub join-rules : (a b : List ℕ) (m : Machine) → 1 ≤ length a → length a ≤ 4 → length a ≡ length b → Rules records stored m (span a m) (span b m) (joinOn (length a) a b m)
 join-rules a b m lo hi e =
-    subst (λ (n : ℕ). Rules records stored m (span a m) (spanOn n b m) (join a b m)) e (on-level (length a) lo hi a b refl (sym e) m)
+    subst (λ (n : ℕ). Rules records stored m (span a m) (spanOn n b m) (joinOn (length a) a b m)) e (on-level (length a) lo hi a b refl (sym e) m)

@@ -5,10 +5,10 @@ use mathlib.Core.List.{List, _++_}
 use native.Mathlib.Numerals.{add-one}
 use native.Mathlib.Omega.{arith}
 use lib.ListN.{length, take, drop, set, length-append, length-take, length-drop}
-use Rattle.machine.specs.Answer.{Result, refused, editedNumbers}
+use Rattle.machine.specs.Answer.{refused, editedNumbers}
 use Rattle.machine.specs.Record.{Words}
-use Rattle.machine.specs.Store.{Machine, records, stored, laid, layOut}
-use Rattle.machine.specs.Edit.{withMachine, relaid}
+use Rattle.machine.specs.Store.{records, stored, laid, layOut}
+use Rattle.machine.specs.Edit.{stepBy}
 use Rattle.machine.specs.declared.Refusal.{Refusal}
 use Rattle.machine.specs.declared.Refusal.the-variants.{NoPosition, JoinWithItself}
 use Rattle.machine.specs.declared.Edited as Edited
@@ -19,7 +19,7 @@ use Rattle.moves.specs.Over.{removed, rotated}
 use Rattle.moves.proofs.Records.{Twelve, twelve-take, twelve-drop, remove-laid, rotate-laid}
 use Rattle.seek.specs.Seek.{Good, held, span, spanOf}
 use Rattle.seek.specs.declared.Span as Span
-use Rattle.joins.specs.Join.{join, cutTurned, Turns}
+use Rattle.joins.specs.Join.{joinOn, join, cutTurned, Turns}
 use Rattle.joins.proofs.Laws.{Joined, join-rules}
 
 -- ---- `cut_turn`
@@ -62,49 +62,50 @@ turn-law w w₁ w₂ gone a m b count t c e f =
 
 -- ---- the returns of `join_at`
 
-answer-refused : (w : List ℕ) (out : Result Machine) (r : Refusal) → out ≡ refused r
-    → (editedNumbers (Edited.the-variants.Refused r), w) ≡ relaid w (held w) (withMachine out)
-answer-refused w out r e = rw e
+answer-refused : (w a b : List ℕ) → Good w → (r : Refusal) → joinOn (length a) a b (held w) ≡ refused r
+    → (editedNumbers (Edited.the-variants.Refused r), w) ≡ stepBy w (join a b)
+unfolding stepBy
+answer-refused w a b g r e = rw (g, e)
 
-answer-joined : (w w′ : List ℕ) (p q p′ q′ : ℕ) (rs : List Words) (out : Result Machine) → Joined records stored (held w) p q p′ q′ rs out
-    → w′ ≡ laid (length w) (concat rs) → (editedNumbers (Edited.the-variants.Done 1 0), w′) ≡ relaid w (held w) (withMachine out)
-unfolding layOut
-answer-joined w w′ p q p′ q′ rs out j e =
+answer-joined : (w w′ a b : List ℕ) → Good w → (p q p′ q′ : ℕ) (rs : List Words) → Joined records stored (held w) p q p′ q′ rs (joinOn (length a) a b (held w))
+    → w′ ≡ laid (length w) (concat rs) → (editedNumbers (Edited.the-variants.Done 1 0), w′) ≡ stepBy w (join a b)
+unfolding stepBy layOut
+answer-joined w w′ a b g p q p′ q′ rs j e =
     let z : stored (held w) - stored (j .after) ≡ 0 = omega (arith, j .atoms) in
-    rw (j .done, z, j .joined, e)
+    rw (g, j .done, z, j .joined, e)
 
-pub no-first : (w a b : List ℕ) (s : Span.Span) → 1 ≤ length a → length a ≤ 4 → length a ≡ length b → s ≡ spanOf (span a (held w)) → s ≡ Span.the-variants.Missing
-    → (editedNumbers (Edited.the-variants.Refused NoPosition), w) ≡ relaid w (held w) (withMachine (join a b (held w)))
-no-first w a b s lo hi e f g = answer-refused w _ NoPosition (join-rules a b (held w) lo hi e .no-first (sym f ∙ g))
+pub no-first : (w a b : List ℕ) → Good w → (s : Span.Span) → 1 ≤ length a → length a ≤ 4 → length a ≡ length b → s ≡ spanOf (span a (held w)) → s ≡ Span.the-variants.Missing
+    → (editedNumbers (Edited.the-variants.Refused NoPosition), w) ≡ stepBy w (join a b)
+no-first w a b g s lo hi e f h = answer-refused w a b g NoPosition (join-rules a b (held w) lo hi e .no-first (sym f ∙ h))
 
-pub no-second : (w a b : List ℕ) (s : Span.Span) → 1 ≤ length a → length a ≤ 4 → length a ≡ length b → s ≡ spanOf (span b (held w)) → s ≡ Span.the-variants.Missing
-    → (editedNumbers (Edited.the-variants.Refused NoPosition), w) ≡ relaid w (held w) (withMachine (join a b (held w)))
-no-second w a b s lo hi e f g = answer-refused w _ NoPosition (join-rules a b (held w) lo hi e .no-second (sym f ∙ g))
+pub no-second : (w a b : List ℕ) → Good w → (s : Span.Span) → 1 ≤ length a → length a ≤ 4 → length a ≡ length b → s ≡ spanOf (span b (held w)) → s ≡ Span.the-variants.Missing
+    → (editedNumbers (Edited.the-variants.Refused NoPosition), w) ≡ stepBy w (join a b)
+no-second w a b g s lo hi e f h = answer-refused w a b g NoPosition (join-rules a b (held w) lo hi e .no-second (sym f ∙ h))
 
 -- both are there
-module _ (w a b : List ℕ) (s t : Span.Span) (pa qa pb qb : ℕ) (lo : 1 ≤ length a) (hi : length a ≤ 4) (e : length a ≡ length b)
+module _ (w a b : List ℕ) (g : Good w) (s t : Span.Span) (pa qa pb qb : ℕ) (lo : 1 ≤ length a) (hi : length a ≤ 4) (e : length a ≡ length b)
     (sa : s ≡ spanOf (span a (held w))) (sb : t ≡ spanOf (span b (held w))) (ta : s ≡ Span.the-variants.At pa qa) (tb : t ≡ Span.the-variants.At pb qb) where
-  pub itself : pa ≡ pb → (editedNumbers (Edited.the-variants.Refused JoinWithItself), w) ≡ relaid w (held w) (withMachine (join a b (held w)))
-  itself o = answer-refused w _ JoinWithItself (join-rules a b (held w) lo hi e .itself pa qa pb qb (sym sa ∙ ta) (sym sb ∙ tb) o)
+  pub itself : pa ≡ pb → (editedNumbers (Edited.the-variants.Refused JoinWithItself), w) ≡ stepBy w (join a b)
+  itself o = answer-refused w a b g JoinWithItself (join-rules a b (held w) lo hi e .itself pa qa pb qb (sym sa ∙ ta) (sym sb ∙ tb) o)
 
   module _ (o : pa < pb) where
-    behind : Joined records stored (held w) pa qa pb qb (cutTurned pb qa pb (qb - 1) (records (held w))) (join a b (held w))
+    behind : Joined records stored (held w) pa qa pb qb (cutTurned pb qa pb (qb - 1) (records (held w))) (joinOn (length a) a b (held w))
     behind = join-rules a b (held w) lo hi e .behind pa qa pb qb (sym sa ∙ ta) (sym sb ∙ tb) o
 
     pub behind-second : 1 ≤ qb
     behind-second = omega (arith, behind .ordered .second)
 
-    pub behind-turns : Good w → Turns w pb qa pb (qb - 1)
-    behind-turns g =
+    pub behind-turns : Turns w pb qa pb (qb - 1)
+    behind-turns =
         let r = behind .ordered in
         record { good = g; there = omega (arith, r .second, r .room); low = r .order; high = omega (arith, r .second); room = omega (arith, r .second, r .room) }
 
     pub behind-done : (w′ : List ℕ) → w′ ≡ laid (length w) (concat (cutTurned pb qa pb (qb - 1) (records (held w))))
-        → (editedNumbers (Edited.the-variants.Done 1 0), w′) ≡ relaid w (held w) (withMachine (join a b (held w)))
-    behind-done w′ f = answer-joined w w′ pa qa pb qb _ _ behind f
+        → (editedNumbers (Edited.the-variants.Done 1 0), w′) ≡ stepBy w (join a b)
+    behind-done w′ f = answer-joined w w′ a b g pa qa pb qb _ behind f
 
   module _ (o : pa ≡ pb → ⊥) (l : pb ≤ pa) where
-    ahead : Joined records stored (held w) pb qb pa qa (cutTurned pb pb (qb - 1) (qa - 1) (records (held w))) (join a b (held w))
+    ahead : Joined records stored (held w) pb qb pa qa (cutTurned pb pb (qb - 1) (qa - 1) (records (held w))) (joinOn (length a) a b (held w))
     ahead = join-rules a b (held w) lo hi e .ahead pa qa pb qb (sym sa ∙ ta) (sym sb ∙ tb) (omega arith)
 
     pub ahead-second : 1 ≤ qb
@@ -113,8 +114,8 @@ module _ (w a b : List ℕ) (s t : Span.Span) (pa qa pb qb : ℕ) (lo : 1 ≤ le
     pub ahead-first : 1 ≤ qa
     ahead-first = omega (arith, ahead .ordered .second)
 
-    pub ahead-turns : Good w → Turns w pb pb (qb - 1) (qa - 1)
-    ahead-turns g =
+    pub ahead-turns : Turns w pb pb (qb - 1) (qa - 1)
+    ahead-turns =
         let r = ahead .ordered in
         record {
           good = g;
@@ -125,5 +126,5 @@ module _ (w a b : List ℕ) (s t : Span.Span) (pa qa pb qb : ℕ) (lo : 1 ≤ le
         }
 
     pub ahead-done : (w′ : List ℕ) → w′ ≡ laid (length w) (concat (cutTurned pb pb (qb - 1) (qa - 1) (records (held w))))
-        → (editedNumbers (Edited.the-variants.Done 1 0), w′) ≡ relaid w (held w) (withMachine (join a b (held w)))
-    ahead-done w′ f = answer-joined w w′ pb qb pa qa _ _ ahead f
+        → (editedNumbers (Edited.the-variants.Done 1 0), w′) ≡ stepBy w (join a b)
+    ahead-done w′ f = answer-joined w w′ a b g pb qb pa qa _ ahead f

@@ -5,7 +5,7 @@ use lib.ListN.{length, take, drop}
 use Rattle.machine.specs.Answer.{Result, refused}
 use Rattle.machine.specs.Record.{Words}
 use Rattle.machine.specs.Store.{Machine, records}
-use Rattle.machine.specs.Edit.{joinAt}
+use Rattle.machine.specs.Edit.{Change, joinAt, withMachine}
 use Rattle.machine.specs.declared.Refusal.the-variants.{NoPosition}
 use Rattle.moves.specs.Over.{rotated}
 use Rattle.seek.specs.Seek.{Good, held}
@@ -19,8 +19,8 @@ joinOn (suc (suc (suc zero))) a b m = joinAt 2 1 a b m
 joinOn (suc (suc (suc (suc zero)))) a b m = joinAt 3 0 a b m
 joinOn (suc (suc (suc (suc (suc n))))) a b m = refused NoPosition
 
-abbrev pub join : List ℕ → List ℕ → Machine → Result Machine
-join a b m = joinOn (length a) a b m
+abbrev pub join : List ℕ → List ℕ → Machine → Result Change
+join a b m = withMachine (joinOn (length a) a b m)
 
 -- records without the one of number `gone`, and then those from a to m and those from m to b exchanged
 unfoldable pub cutTurned : ℕ → ℕ → ℕ → ℕ → List Words → List Words

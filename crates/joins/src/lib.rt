@@ -4,7 +4,7 @@ ghost use Prim.Native.Nat.{_≤_};
 ghost use lib.ListN.{length};
 ghost use Rattle.machine.specs.Answer.{editedNumbers};
 ghost use Rattle.machine.specs.Store.{records, laid};
-ghost use Rattle.machine.specs.Edit.{withMachine, relaid};
+ghost use Rattle.machine.specs.Edit.{stepBy};
 ghost use Rattle.laws.specs.Grouped.{concat};
 ghost use Rattle.seek.specs.Seek.{Good, held};
 ghost use Rattle.joins.specs.Join.{join, cutTurned, Turns};
@@ -40,7 +40,7 @@ fn cut_turn(store: &mut [u64], gone: usize, a: usize, m: usize, b: usize)
 pub fn join_at(store: &mut [u64], first: &[u64], second: &[u64]) -> Edited
     requires { ⌜ Good (now store) ⌝ }
     requires { ⌜ (1 ≤ length (now first)) × (length (now first) ≤ 4) × (length (now first) ≡ length (now second)) ⌝ }
-    ensures { λ r. ⌜ (editedNumbers r, now (store .exit)) ≡ relaid (now (store .entry)) (held (now (store .entry))) (withMachine (join (now (first .entry)) (now (second .entry)) (held (now (store .entry))))) ⌝ }
+    ensures { λ r. ⌜ (editedNumbers r, now (store .exit)) ≡ stepBy (now (store .entry)) (join (now (first .entry)) (now (second .entry))) ⌝ }
 {
     let Span::At(start, end) = seek::locate(store, first) else {
         return Edited::Refused(Refusal::NoPosition);

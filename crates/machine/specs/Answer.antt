@@ -87,3 +87,8 @@ refused r >> b = refused r
 abbrev pub need : Bool → Refusal → Result (Unit {0})
 need true r = ok tt
 need false r = refused r
+
+-- the value, or what the refusal gives
+abbrev pub orElse : {A : Type 0} → (Refusal → A) → Result A → A
+orElse f (ok x) = x
+orElse f (refused r) = f r

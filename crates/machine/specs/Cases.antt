@@ -12,7 +12,7 @@ use Rattle.machine.specs.Record.{Words, words, fieldsOf, goodValues, goo
 use Rattle.machine.specs.Store.{Machine, stored, flat, atomCount, laid, layOut, inOrder, goodLayout, cut, group, readStore}
 use Rattle.machine.specs.Query.{codes, nodeOf, nodesOf, run, leavesOne, readTree, treeValue, dropSign, close, termValue, tables, packedName}
 use Rattle.machine.specs.Find.{enter, atomsIn, atomsOf, hitsIn, hitsOf, findRun}
-use Rattle.machine.specs.Edit.{NewAtom, Call, AddModel, AddAtom, branchAt, replaceAt, addModel, prepare, upsert, addAtom, machineStep, storeStep, storeAfter, storeAnswers}
+use Rattle.machine.specs.Edit.{NewAtom, Call, AddModel, AddAtom, branchAt, replaceAt, addModel, prepare, upsert, addAtom, machineStep, stepBy, storeStep, storeAfter, storeAnswers}
 use Rattle.machine.specs.Program.{readInput, digits, printed, programRun}
 use Rattle.machine.specs.Demand.{undecided}
 
@@ -183,5 +183,5 @@ cases =
     ∷ []
 
 pub worked : map (λ (c : Case). c .given) cases ≡ map (λ (c : Case). c .stated) cases
-unfolding cases S renamed withBFactor packed unpacked withoutZeros textOf trimStart trim chainId raised atomName matches storedBy packedText words fieldsOf goodValues goodFields goodRecord readOut flat atomCount laid layOut inOrder goodLayout cut group readStore codes nodeOf nodesOf run leavesOne readTree treeValue dropSign close termValue tables enter atomsIn atomsOf hitsIn hitsOf findRun branchAt replaceAt addModel prepare upsert addAtom machineStep storeStep storeAfter storeAnswers readInput digits printed programRun undecided ofBits sub lt
+unfolding cases S renamed withBFactor packed unpacked withoutZeros textOf trimStart trim chainId raised atomName matches storedBy packedText words fieldsOf goodValues goodFields goodRecord readOut flat atomCount laid layOut inOrder goodLayout cut group readStore codes nodeOf nodesOf run leavesOne readTree treeValue dropSign close termValue tables enter atomsIn atomsOf hitsIn hitsOf findRun branchAt replaceAt addModel prepare upsert addAtom machineStep stepBy storeStep storeAfter storeAnswers readInput digits printed programRun undecided ofBits sub lt
 worked = refl

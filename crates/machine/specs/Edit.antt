@@ -7,7 +7,7 @@ use mathlib.Core.Option.{Option, none, some}
 use lib.ListN.{length}
 use lib.Dec.{leb, eqb}
 use Rattle.machine.specs.Lists.{isEmpty, those, nth, splice, firstWhere, lastWhere, andThen, same}
-use Rattle.machine.specs.Answer.{Result, ok, refused, _>>=_, _>>_, need, badName, editedNumbers}
+use Rattle.machine.specs.Answer.{Result, ok, refused, _>>=_, _>>_, need, orElse, badName, editedNumbers}
 use Rattle.machine.specs.Text.{Optional, chainId, insertionCode, conformerName, alternativeLocation, atomName, optional, goodFlag, matches, matchesOptional}
 use Rattle.machine.specs.Record.{Fields, Atom, goodValues}
 use Rattle.machine.specs.Store.{Branch, Machine, records, stored, capacity, layOut, readStore}
@@ -280,18 +280,18 @@ abbrev pub next : Machine → Result Change → Machine
 next m (ok c) = c .after
 next m (refused r) = m
 
--- the store: what its words hold takes the step, and is laid out again; a refusal leaves the words
-abbrev pub relaid : List ℕ → Machine → Result Change → List ℕ × List ℕ
-relaid w m (ok c) = (answer m (ok c), layOut (length w) (c .after))
-relaid w m (refused r) = (answer m (refused r), w)
+-- an edit of a store, as the answer's numbers and the words afterwards: what the words hold takes a step, and is laid out again; a
+-- refusal leaves the words
+unfoldable pub stepBy : List ℕ → (Machine → Result Change) → List ℕ × List ℕ
+stepBy w step =
+    orElse (λ r. (editedNumbers (Edited.the-variants.Refused r), w)) (do
+      m ← readStore w
+      c ← step m
+      ok (answer m (ok c), layOut (length w) (c .after)))
 
-abbrev pub stepRead : List ℕ → Call → Result Machine → List ℕ × List ℕ
-stepRead w c (ok m) = relaid w m (machineStep (length w) m c)
-stepRead w c (refused r) = (editedNumbers (Edited.the-variants.Refused r), w)
-
--- an edit: the answer's numbers, and the store's words afterwards
+-- one of the sixteen calls
 unfoldable pub storeStep : List ℕ → Call → List ℕ × List ℕ
-storeStep w c = stepRead w c (readStore w)
+storeStep w c = stepBy w (λ m. machineStep (length w) m c)
 
 -- ---- a list of calls: "Each call gets the store that the last one left"
 

@@ -13,7 +13,7 @@ use Rattle.machine.specs.Record.{words, fieldsOf, goodValues, goodFields
 use Rattle.machine.specs.Store.{flat, atomCount, laid, layOut, inOrder, goodLayout, cut, group, readStore, openRun}
 use Rattle.machine.specs.Query.{codes, nodeOf, nodesOf, run, leavesOne, readTree, treeValue, termValue, tables, packedName}
 use Rattle.machine.specs.Find.{enter, atomsIn, atomsOf, hitsIn, hitsOf, findRun}
-use Rattle.machine.specs.Edit.{Call, AddModel, AddAtom, RemoveChain, RemoveAtom, RemoveChainById, RemoveResidueById, RemoveConformerById, RemoveAtomBySerialNumber, RemoveAtomsBy, RemoveEmpty, JoinModels, JoinResidues, branchAt, replaceAt, addModel, prepare, upsert, addAtom, removeAt, removeFirst, keepAtoms, removeAtomsBy, nonEmpty, removeEmpty, joinAt, machineStep, storeStep, storeAfter, storeAnswers}
+use Rattle.machine.specs.Edit.{Call, AddModel, AddAtom, RemoveChain, RemoveAtom, RemoveChainById, RemoveResidueById, RemoveConformerById, RemoveAtomBySerialNumber, RemoveAtomsBy, RemoveEmpty, JoinModels, JoinResidues, branchAt, replaceAt, addModel, prepare, upsert, addAtom, removeAt, removeFirst, keepAtoms, removeAtomsBy, nonEmpty, removeEmpty, joinAt, machineStep, stepBy, storeStep, storeAfter, storeAnswers}
 use Rattle.machine.specs.Lookup.{numbered, serials, lookupIn, lookupRun}
 use Rattle.machine.specs.Program.{readInput, digits, printed, programRun}
 use Rattle.machine.specs.Cases.{record12, store, S, node, element7, found, absent, present, atom, zeros, atomRecord, file, eightBytes, Case}
@@ -161,7 +161,7 @@ examples =
     ∷ []
 
 pub shown : map (λ (c : Case). c .given) examples ≡ map (λ (c : Case). c .stated) examples
-unfolding examples serialStore S packed unpacked withoutZeros textOf trimStart trim chainId raised atomName matches storedBy packedText words fieldsOf goodValues goodFields goodRecord readOut flat atomCount laid layOut inOrder goodLayout cut group readStore openRun codes nodeOf nodesOf run leavesOne readTree treeValue termValue tables enter atomsIn atomsOf hitsIn hitsOf findRun branchAt replaceAt addModel prepare upsert addAtom removeAt removeFirst keepAtoms removeAtomsBy nonEmpty removeEmpty joinAt machineStep storeStep storeAfter storeAnswers numbered serials lookupIn lookupRun readInput digits printed programRun ofBits sub lt
+unfolding examples serialStore S packed unpacked withoutZeros textOf trimStart trim chainId raised atomName matches storedBy packedText words fieldsOf goodValues goodFields goodRecord readOut flat atomCount laid layOut inOrder goodLayout cut group readStore openRun codes nodeOf nodesOf run leavesOne readTree treeValue termValue tables enter atomsIn atomsOf hitsIn hitsOf findRun branchAt replaceAt addModel prepare upsert addAtom removeAt removeFirst keepAtoms removeAtomsBy nonEmpty removeEmpty joinAt machineStep stepBy storeStep storeAfter storeAnswers numbered serials lookupIn lookupRun readInput digits printed programRun ofBits sub lt
 shown = refl
 
 -- "over 65,536 bytes": the next multiple of 8 is refused

@@ -12,7 +12,7 @@ use Rattle.machine.specs.Lists.{keep}
 use Rattle.machine.specs.Answer.{editedNumbers}
 use Rattle.machine.specs.Record.{Words}
 use Rattle.machine.specs.Store.{stored, laid, layOut, recordsOf}
-use Rattle.machine.specs.Edit.{withChildren, nonEmpty, removeEmpty, relaid}
+use Rattle.machine.specs.Edit.{withChildren, nonEmpty, removeEmpty, stepBy}
 use Rattle.machine.specs.declared.Edited as Edited
 use Rattle.machine.specs.declared.Refusal.the-variants.{NoPosition}
 use Rattle.laws.specs.Lists.{All}
@@ -188,9 +188,9 @@ pub record Gap (first : ℕ) (s : List ℕ) : Type 0 where
   pub high : first ≤ length (recordsOf s)
 
 module _ (w : List ℕ) (i : ℕ) (g : Good w) (r : Span.Span) (e : r ≡ spanOf (span (i ∷ []) (held w))) where
-  pub empty-missing : r ≡ Span.the-variants.Missing → _≡_ {A = List ℕ × List ℕ} (editedNumbers (Edited.the-variants.Refused NoPosition), w) (relaid w (held w) (removeEmpty i (held w)))
-  unfolding removeEmpty
-  empty-missing f = let b = missing 0 4 (i ∷ []) 0 (held w) (sym e ∙ f) in rw b
+  pub empty-missing : r ≡ Span.the-variants.Missing → (editedNumbers (Edited.the-variants.Refused NoPosition), w) ≡ stepBy w (removeEmpty i)
+  unfolding stepBy removeEmpty
+  empty-missing f = let b = missing 0 4 (i ∷ []) 0 (held w) (sym e ∙ f) in rw (g, b)
 
   module _ (start stop : ℕ) (f : r ≡ Span.the-variants.At start stop) where
     there : Stands 0 4 (i ∷ []) 0 (held w) start stop
@@ -236,6 +236,6 @@ module _ (w : List ℕ) (i : ℕ) (g : Good w) (r : Span.Span) (e : r ≡ spanOf
             let us = there .branch .1 in
             omega (arith, below-stored i start stop (held w) there (nonEmpty 3 us), nonEmpty-atoms 3 us)
 
-        pub empty-done : _≡_ {A = List ℕ × List ℕ} (editedNumbers (Edited.the-variants.Done 1 0), v) (relaid w (held w) (removeEmpty i (held w)))
-        unfolding removeEmpty
-        empty-done = let n = none-removed in let a = after in rw (there .there, n, a)
+        pub empty-done : (editedNumbers (Edited.the-variants.Done 1 0), v) ≡ stepBy w (removeEmpty i)
+        unfolding stepBy removeEmpty
+        empty-done = let n = none-removed in let a = after in rw (g, there .there, n, a)

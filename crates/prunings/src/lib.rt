@@ -5,10 +5,10 @@ ghost use Prim.Native.Nat.{_+_, _≤_, _<_};
 ghost use lib.ListN.{length, take, drop};
 ghost use Rattle.machine.specs.Answer.{editedNumbers};
 ghost use Rattle.machine.specs.Store.{laid, recordsOf};
-ghost use Rattle.machine.specs.Edit.{removeEmpty, relaid};
+ghost use Rattle.machine.specs.Edit.{removeEmpty, stepBy};
 ghost use Rattle.laws.specs.Grouped.{concat};
 ghost use Rattle.moves.specs.Over.{over};
-ghost use Rattle.seek.specs.Seek.{held, Good, Within, recordAt, between};
+ghost use Rattle.seek.specs.Seek.{Good, Within, recordAt, between};
 ghost use Rattle.prunings.specs.Prune.{Laid, stays, Gathered};
 use machine::Edited;
 use machine::Record;
@@ -83,7 +83,7 @@ fn gather(store: &mut [u64], from: usize, end: usize) -> usize
 // Conformers without atoms go, then residues without conformers, then chains without residues, of a model. No atom does.
 pub fn remove_empty(store: &mut [u64], model: u64) -> Edited
     requires { ⌜ Good (now store) ⌝ }
-    ensures { λ r. ⌜ (editedNumbers r, now (store .exit)) ≡ relaid (now (store .entry)) (held (now (store .entry))) (removeEmpty model (held (now (store .entry)))) ⌝ }
+    ensures { λ r. ⌜ (editedNumbers r, now (store .exit)) ≡ stepBy (now (store .entry)) (removeEmpty model) ⌝ }
 {
     let position = [model];
     let Span::At(start, end) = seek::locate(store, &position) else {

@@ -5,11 +5,11 @@ use mathlib.Core.List.{List, [], _++_, append-assoc}
 use native.Mathlib.Omega.{arith}
 use lib.ListN.{length, set, drop, take, length-append}
 use lib.Seq.{take-at, drop-at}
-use Rattle.machine.specs.Answer.{ok, editedNumbers}
+use Rattle.machine.specs.Answer.{Result, ok, editedNumbers}
 use Rattle.machine.specs.Record.{Words}
 use Rattle.machine.specs.Store.{Branch, Machine, flat, records, stored, layOut, laid, end}
 use Rattle.machine.specs.Lists.{bind}
-use Rattle.machine.specs.Edit.{changed, relaid, up, replaceAt}
+use Rattle.machine.specs.Edit.{Change, changed, stepBy, up, replaceAt}
 use Rattle.machine.specs.declared.Edited.the-variants.{Done}
 use Rattle.laws.specs.Lists.{sum-append}
 use Rattle.laws.specs.Grouped.{concat, twelve-words}
@@ -94,9 +94,10 @@ module _ (w : List ℕ) (g : Good w) (m′ : Machine) (p q : ℕ) (c : Cut (reco
       rw (chunks-take q (length rs) w (cut-high _ _ p q c), whole-records w g, cut-taken _ _ p q c, ← atoms-stored (held w), ← atoms-stored m′) (cut-counts _ _ p q c)
 
   -- "removed, the atom records before minus those after"
-  pub cut-relaid : (r : ℕ) (s : List ℕ) → r ≡ atomRecords (between p q w) → s ≡ withoutRecords p q w
-      → _≡_ {A = List ℕ × List ℕ} (editedNumbers (Done 1 r), s) (relaid w (held w) (ok (changed m′)))
-  cut-relaid r s e f = rw (e, f, cut-atoms, cut-words)
+  pub cut-step : (step : Machine → Result Change) → step (held w) ≡ ok (changed m′) → (r : ℕ) (s : List ℕ) → r ≡ atomRecords (between p q w) → s ≡ withoutRecords p q w
+      → (editedNumbers (Done 1 r), s) ≡ stepBy w step
+  unfolding stepBy
+  cut-step step a r s e f = rw (g, a, e, f, cut-atoms, cut-words)
 
 -- the records of a branch that gives way to none
 pub cut-branch : (d j : ℕ) (pos : List ℕ) (ts : List (Branch (up d j))) (p q : ℕ) → Stands d j pos 0 ts p q

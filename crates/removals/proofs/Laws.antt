@@ -12,7 +12,7 @@ use Rattle.machine.specs.Lists.{bind, firstWhere, splice}
 use Rattle.machine.specs.Answer.{Result, ok, refused, editedNumbers}
 use Rattle.machine.specs.Record.{Fields, words, kind}
 use Rattle.machine.specs.Store.{Branch, Machine, flat, records, stored, end, chunks}
-use Rattle.machine.specs.Edit.{up, branchAt, removeAt, replaceAt, root, withChildren, removeFirst, relaid}
+use Rattle.machine.specs.Edit.{up, branchAt, removeAt, replaceAt, root, withChildren, removeFirst, withMachine, withFound, stepBy}
 use Rattle.machine.specs.declared.Refusal.the-variants.{NoPosition, BadIdentifier}
 use Rattle.machine.specs.declared.Edited as Edited
 use Rattle.machine.specs.declared.Edited.the-variants.{Done, Refused}
@@ -24,7 +24,7 @@ use Rattle.seek.specs.Laws.{Stands, missing, found, stands-within, stands-recor
 use Rattle.seek.specs.declared.Span as Span
 use Rattle.removals.specs.Removal.{Removable, withoutRecords, removalOn, removal}
 use Rattle.removals.specs.Named.{Id, idOf, named, sought, before, names, flagOf, firstOn, firstRemoval}
-use Rattle.removals.proofs.Cut.{Cut, cut-removable, cut-relaid, cut-branch}
+use Rattle.removals.proofs.Cut.{Cut, cut-removable, cut-step, cut-branch}
 use Rattle.removals.proofs.First.{child-low, child-stop, cut-child, Picked, picked}
 
 -- ---- remove_span
@@ -68,19 +68,19 @@ removed-at (i ∷ (c ∷ (r ∷ (f ∷ (a ∷ []))))) m lo hi = removes 4 0 _ m
 removed-at (i ∷ (c ∷ (r ∷ (f ∷ (a ∷ (x ∷ is)))))) m lo hi = absurd (omega arith)
 
 module _ (w pos : List ℕ) (g : Good w) (lo : 2 ≤ length pos) (hi : length pos ≤ 5) (r : Span.Span) (e : r ≡ spanOf (span pos (held w))) where
-  pub at-missing : r ≡ Span.the-variants.Missing
-      → _≡_ {A = List ℕ × List ℕ} (editedNumbers (Refused NoPosition), w) (relaid w (held w) (removal pos (held w)))
-  at-missing f = rw (removed-at pos (held w) lo hi .missing (sym e ∙ f))
+  pub at-missing : r ≡ Span.the-variants.Missing → (editedNumbers (Refused NoPosition), w) ≡ stepBy w (removal pos)
+  unfolding stepBy
+  at-missing f = rw (g, removed-at pos (held w) lo hi .missing (sym e ∙ f))
 
   module _ (p q : ℕ) (f : r ≡ Span.the-variants.At p q) where
     pub at-removable : Removable p q w
     at-removable = let s = removed-at pos (held w) lo hi .found p q (sym e ∙ f) in cut-removable w g (s .after) p q (s .cut)
 
     pub at-removed : (n : ℕ) (v : List ℕ) → n ≡ atomRecords (between p q w) → v ≡ withoutRecords p q w
-        → _≡_ {A = List ℕ × List ℕ} (editedNumbers (Done 1 n), v) (relaid w (held w) (removal pos (held w)))
+        → (editedNumbers (Done 1 n), v) ≡ stepBy w (removal pos)
     at-removed n v a b =
         let s = removed-at pos (held w) lo hi .found p q (sym e ∙ f) in
-        rw (s .accepted) (cut-relaid w g (s .after) p q (s .cut) n v a b)
+        cut-step w g (s .after) p q (s .cut) (removal pos) (ap withMachine (s .accepted)) n v a b
 
 -- ---- remove_first
 
@@ -181,11 +181,12 @@ first-at w (i ∷ (c ∷ (r ∷ (f ∷ [])))) id g lo hi = first-by w g 3 0 _ (h
 first-at w (i ∷ (c ∷ (r ∷ (f ∷ (x ∷ is))))) id g lo hi = absurd (omega arith)
 
 abbrev Outcome : List ℕ → List ℕ → Id → Edited.Edited → List ℕ → Type 0
-Outcome w pos id r v = _≡_ {A = List ℕ × List ℕ} (editedNumbers r, v) (relaid w (held w) (firstRemoval pos id (held w)))
+Outcome w pos id r v = (editedNumbers r, v) ≡ stepBy w (firstRemoval pos id)
 
 pub first-missing : (w pos : List ℕ) (serial : ℕ) (name : List ℕ) (flag : ℕ) (text : List ℕ) → Good w → 1 ≤ length pos → length pos ≤ 4 → (r : Span.Span) → r ≡ spanOf (span pos (held w))
     → r ≡ Span.the-variants.Missing → Outcome w pos (idOf serial name flag text) (Refused NoPosition) w
-first-missing w pos serial name flag text g lo hi r e f = rw (first-at w pos (idOf serial name flag text) g lo hi .missing (sym e ∙ f))
+unfolding stepBy
+first-missing w pos serial name flag text g lo hi r e f = rw (g, first-at w pos (idOf serial name flag text) g lo hi .missing (sym e ∙ f))
 
 -- the parent's records
 pub record Parent (w pos : List ℕ) (p q : ℕ) : Type 0 where
@@ -208,7 +209,8 @@ module _ {w pos : List ℕ} {p q : ℕ} (s : Parent w pos p q) (serial : ℕ) (n
   first-within = below .within
 
   pub first-flag : 1 < flag → Outcome w pos given (Refused BadIdentifier) w
-  first-flag l = rw (below .flagged (rw (lt-leb flag 1 l)))
+  unfolding stepBy
+  first-flag l = rw (s .good, below .flagged (rw (lt-leb flag 1 l)))
 
   module _ (l : flag ≤ 1) (at : ℕ) (a : at ≡ p + 1 + before (sought (length pos + 1) given) (between (p + 1) q w)) where
     good-flag : flagOf given ≡ ok tt
@@ -216,9 +218,10 @@ module _ {w pos : List ℕ} {p q : ℕ} (s : Parent w pos p q) (serial : ℕ) (n
 
     -- "None found: found 0"
     pub first-unfound : q ≤ at → Outcome w pos given (Done 0 0) w
+    unfolding stepBy
     first-unfound b =
         let z : stored (held w) - stored (held w) ≡ 0 = omega arith in
-        rw (below .unfound at good-flag a b, layOut-read w (held w) (s .good), z)
+        rw (s .good, below .unfound at good-flag a b, layOut-read w (held w) (s .good), z)
 
     module _ (b : at < q) (stop : ℕ) (c : stop ≡ at + 1 + run (length pos + 1) (between (at + 1) q w)) where
       lost-child : Loses 4 (held w) (firstOn (length pos) pos given (held w)) at stop
@@ -228,4 +231,4 @@ module _ {w pos : List ℕ} {p q : ℕ} (s : Parent w pos p q) (serial : ℕ) (n
       first-removable = let t = lost-child in cut-removable w (s .good) (t .after) at stop (t .cut)
 
       pub first-removed : (n : ℕ) (v : List ℕ) → n ≡ atomRecords (between at stop w) → v ≡ withoutRecords at stop w → Outcome w pos given (Done 1 n) v
-      first-removed n v x y = let t = lost-child in rw (t .accepted) (cut-relaid w (s .good) (t .after) at stop (t .cut) n v x y)
+      first-removed n v x y = let t = lost-child in cut-step w (s .good) (t .after) at stop (t .cut) (firstRemoval pos given) (ap withFound (t .accepted)) n v x y

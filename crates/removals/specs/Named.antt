@@ -1,7 +1,6 @@
 -- What the removals by id cite: the records that an id names, and the machine's removal by a parent's position of any length.
 -- Assumes nothing.
 use Prim.Native.Nat.{ℕ, zero, suc}
-use mathlib.Core.Path.{_≡_, refl}
 use mathlib.Core.Bool.{Bool, true, false, _&&_, cond}
 use mathlib.Core.List.{List, [], _∷_}
 use lib.ListN.{length, getD}
@@ -10,7 +9,7 @@ use Rattle.machine.specs.Answer.{Result, ok, refused, need, badName}
 use Rattle.machine.specs.Text.{Optional, goodFlag, matches, matchesOptional}
 use Rattle.machine.specs.Record.{Words, Fields, kind}
 use Rattle.machine.specs.Store.{Machine}
-use Rattle.machine.specs.Edit.{Change, removeFirst, withFound, machineStep, RemoveChainById, RemoveResidueById, RemoveConformerById, RemoveAtomBySerialNumber}
+use Rattle.machine.specs.Edit.{Change, removeFirst, withFound}
 use Rattle.machine.specs.declared.Refusal.the-variants.{NoPosition, BadIdentifier}
 use Rattle.machine.specs.declared.Name.the-variants.{InsertionCode, AlternativeLocation}
 
@@ -67,7 +66,7 @@ firstOn (suc (suc (suc (suc (suc n))))) pos id m = refused NoPosition
 abbrev pub firstRemoval : List ℕ → Id → Machine → Result Change
 firstRemoval pos id m = withFound (firstOn (length pos) pos id m)
 
--- ---- the four calls
+-- ---- the four calls: the machine's steps
 
 abbrev pub chainById : ℕ → List ℕ → Machine → Result Change
 chainById i id m = withFound (removeFirst 0 3 (i ∷ []) (ok tt) (λ c. matches id (c .id)) m)
@@ -82,21 +81,3 @@ conformerById i c r name location m =
 
 abbrev pub atomBySerialNumber : (model chain residue conformer : ℕ) → ℕ → Machine → Result Change
 atomBySerialNumber i c r f serial m = withFound (removeFirst 3 0 (i ∷ c ∷ r ∷ f ∷ []) (ok tt) (λ a. eqb (a .serial) serial) m)
-
--- are the machine's steps
-module _ (n : ℕ) (m : Machine) (i c r f : ℕ) where
-  pub chain-step : (id : List ℕ) → machineStep n m (RemoveChainById i id) ≡ chainById i id m
-  unfolding machineStep
-  chain-step id = refl
-
-  pub residue-step : (serial : ℕ) (code : Optional) → machineStep n m (RemoveResidueById i c serial code) ≡ residueById i c serial code m
-  unfolding machineStep
-  residue-step serial code = refl
-
-  pub conformer-step : (name : List ℕ) (location : Optional) → machineStep n m (RemoveConformerById i c r name location) ≡ conformerById i c r name location m
-  unfolding machineStep
-  conformer-step name location = refl
-
-  pub atom-step : (serial : ℕ) → machineStep n m (RemoveAtomBySerialNumber i c r f serial) ≡ atomBySerialNumber i c r f serial m
-  unfolding machineStep
-  atom-step serial = refl

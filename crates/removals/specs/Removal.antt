@@ -4,10 +4,9 @@ use mathlib.Core.List.{List}
 use lib.ListN.{length, set}
 use Rattle.machine.specs.Answer.{Result, refused}
 use Rattle.machine.specs.Store.{Machine, end}
-use Rattle.machine.specs.Edit.{Change, removeAt, withMachine, relaid}
+use Rattle.machine.specs.Edit.{Change, removeAt, withMachine}
 use Rattle.machine.specs.declared.Refusal.the-variants.{NoPosition}
 use Rattle.moves.specs.Over.{removed}
-use Rattle.seek.specs.Seek.{held}
 
 -- ---- words
 
@@ -35,8 +34,3 @@ removalOn (suc (suc (suc (suc (suc (suc n)))))) pos m = refused NoPosition
 
 abbrev pub removal : List ℕ → Machine → Result Change
 removal pos m = withMachine (removalOn (length pos) pos m)
-
--- ---- a step of the machine that a good store holds
-
-abbrev pub edited : List ℕ → (Machine → Result Change) → List ℕ × List ℕ
-edited w step = relaid w (held w) (step (held w))

@@ -3,8 +3,9 @@ ghost use mathlib.Core.Path.{_≡_};
 ghost use Prim.Native.Nat.{_+_, _≤_};
 ghost use lib.ListN.{length};
 ghost use Rattle.machine.specs.Answer.{editedNumbers};
+ghost use Rattle.machine.specs.Edit.{stepBy};
 ghost use Rattle.seek.specs.Seek.{Good, Within, between, atomRecords};
-ghost use Rattle.removals.specs.Removal.{Removable, withoutRecords, removal, edited};
+ghost use Rattle.removals.specs.Removal.{Removable, withoutRecords, removal};
 ghost use Rattle.removals.specs.Named.{idOf, named, sought, before, firstRemoval, chainById, residueById, conformerById, atomBySerialNumber};
 use machine::Edited;
 use machine::Record;
@@ -30,7 +31,7 @@ pub fn remove_span(store: &mut [u64], p: usize, q: usize) -> u64
 pub fn remove_at(store: &mut [u64], position: &[u64]) -> Edited
     requires { ⌜ Good (now store) ⌝ }
     requires { ⌜ (2 ≤ length (now position)) × (length (now position) ≤ 5) ⌝ }
-    ensures { λ r. ⌜ (editedNumbers r, now (store .exit)) ≡ edited (now (store .entry)) (removal (now (position .entry))) ⌝ }
+    ensures { λ r. ⌜ (editedNumbers r, now (store .exit)) ≡ stepBy (now (store .entry)) (removal (now (position .entry))) ⌝ }
 {
     let Span::At(p, q) = seek::locate(store, position) else {
         return Edited::Refused(Refusal::NoPosition);
@@ -119,7 +120,7 @@ fn remove_first(
 ) -> Edited
     requires { ⌜ Good (now store) ⌝ }
     requires { ⌜ (1 ≤ length (now position)) × (length (now position) ≤ 4) ⌝ }
-    ensures { λ r. ⌜ (editedNumbers r, now (store .exit)) ≡ edited (now (store .entry)) (firstRemoval (now (position .entry)) (idOf serial (now (name .entry)) flag (now (other .entry)))) ⌝ }
+    ensures { λ r. ⌜ (editedNumbers r, now (store .exit)) ≡ stepBy (now (store .entry)) (firstRemoval (now (position .entry)) (idOf serial (now (name .entry)) flag (now (other .entry)))) ⌝ }
 {
     let Span::At(p, q) = seek::locate(store, position) else {
         return Edited::Refused(Refusal::NoPosition);
@@ -141,7 +142,7 @@ fn remove_first(
 
 pub fn remove_chain_by_id(store: &mut [u64], model: u64, id: &[u8]) -> Edited
     requires { ⌜ Good (now store) ⌝ }
-    ensures { λ r. ⌜ (editedNumbers r, now (store .exit)) ≡ edited (now (store .entry)) (chainById model (now (id .entry))) ⌝ }
+    ensures { λ r. ⌜ (editedNumbers r, now (store .exit)) ≡ stepBy (now (store .entry)) (chainById model (now (id .entry))) ⌝ }
 {
     let position = [model];
     remove_first(store, &position, 0, id, 0, id)
@@ -156,7 +157,7 @@ pub fn remove_residue_by_id(
     code: &[u8],
 ) -> Edited
     requires { ⌜ Good (now store) ⌝ }
-    ensures { λ r. ⌜ (editedNumbers r, now (store .exit)) ≡ edited (now (store .entry)) (residueById model chain serial (record { flag = flag; text = now (code .entry) })) ⌝ }
+    ensures { λ r. ⌜ (editedNumbers r, now (store .exit)) ≡ stepBy (now (store .entry)) (residueById model chain serial (record { flag = flag; text = now (code .entry) })) ⌝ }
 {
     let position = [model, chain];
     remove_first(store, &position, serial, code, flag, code)
@@ -172,7 +173,7 @@ pub fn remove_conformer_by_id(
     location: &[u8],
 ) -> Edited
     requires { ⌜ Good (now store) ⌝ }
-    ensures { λ r. ⌜ (editedNumbers r, now (store .exit)) ≡ edited (now (store .entry)) (conformerById model chain residue (now (name .entry)) (record { flag = flag; text = now (location .entry) })) ⌝ }
+    ensures { λ r. ⌜ (editedNumbers r, now (store .exit)) ≡ stepBy (now (store .entry)) (conformerById model chain residue (now (name .entry)) (record { flag = flag; text = now (location .entry) })) ⌝ }
 {
     let position = [model, chain, residue];
     remove_first(store, &position, 0, name, flag, location)
@@ -187,7 +188,7 @@ pub fn remove_atom_by_serial_number(
     serial: u64,
 ) -> Edited
     requires { ⌜ Good (now store) ⌝ }
-    ensures { λ r. ⌜ (editedNumbers r, now (store .exit)) ≡ edited (now (store .entry)) (atomBySerialNumber model chain residue conformer serial) ⌝ }
+    ensures { λ r. ⌜ (editedNumbers r, now (store .exit)) ≡ stepBy (now (store .entry)) (atomBySerialNumber model chain residue conformer serial) ⌝ }
 {
     let position = [model, chain, residue, conformer];
     remove_first(store, &position, serial, b"", 0, b"")

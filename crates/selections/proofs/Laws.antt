@@ -7,16 +7,15 @@ use native.Mathlib.Omega.{arith}
 use lib.ListN.{length, take, drop, getD, length-drop}
 use lib.Seq.{length-take-le}
 use borrow.Author.Tests.{eq-eqb, ne-eqb}
-use Rattle.machine.specs.Answer.{Result, ok, refused, _>>_, editedNumbers}
+use Rattle.machine.specs.Answer.{editedNumbers}
 use Rattle.machine.specs.Record.{Words, fieldsOf}
 use Rattle.machine.specs.Store.{laid, recordsOf}
 use Rattle.machine.specs.Kleene.{isTrue}
 use Rattle.machine.specs.Query.{Names, window, treeValue, readTree, tables}
 use Rattle.machine.specs.Find.{enter, nowhere}
-use Rattle.machine.specs.Edit.{Change, removeAtomsBy, relaid}
+use Rattle.machine.specs.Edit.{removeAtomsBy, stepBy}
 use Rattle.machine.specs.declared.RecordNumbers.{RecordNumbers}
 use Rattle.machine.specs.declared.Tri.{Tri}
-use Rattle.machine.specs.declared.Node.{Node}
 use Rattle.machine.specs.declared.Refusal.{Refusal}
 use Rattle.machine.specs.declared.Refusal.the-variants.{NoPosition}
 use Rattle.machine.specs.declared.Edited.the-variants as Edited
@@ -107,9 +106,9 @@ module _ (p : Words → Bool) (from end : ℕ) (w : List ℕ) (h : Within from e
 
 -- what follows the tree's check
 module _ (w : List ℕ) (i : ℕ) (g : Good w) (r : Span.Span) (e : r ≡ spanOf (span (i ∷ []) (held w))) where
-  pub by-missing : (tree : List ℕ) → r ≡ Span.the-variants.Missing → _≡_ {A = List ℕ × List ℕ} (editedNumbers (Edited.Refused NoPosition), w) (relaid w (held w) (removeAtomsBy i tree (held w)))
-  unfolding removeAtomsBy
-  by-missing tree f = let b = missing 0 4 (i ∷ []) 0 (held w) (sym e ∙ f) in rw b
+  pub by-missing : (tree : List ℕ) → r ≡ Span.the-variants.Missing → (editedNumbers (Edited.Refused NoPosition), w) ≡ stepBy w (removeAtomsBy i tree)
+  unfolding stepBy removeAtomsBy
+  by-missing tree f = let b = missing 0 4 (i ∷ []) 0 (held w) (sym e ∙ f) in rw (g, b)
 
   module _ (start stop : ℕ) (f : r ≡ Span.the-variants.At start stop) where
     there : Stands 0 4 (i ∷ []) 0 (held w) start stop
@@ -120,9 +119,9 @@ module _ (w : List ℕ) (i : ℕ) (g : Good w) (r : Span.Span) (e : r ≡ spanOf
     model-within = below-within w g 0 3 (i ∷ []) (held w) start stop refl there
 
     pub by-refused : (tree : List ℕ) (t : CheckedTree.CheckedTree) → t ≡ checked (readTree tree) → (c : Refusal) → t ≡ CheckedTree.the-variants.Refused c
-        → _≡_ {A = List ℕ × List ℕ} (editedNumbers (Edited.Refused c), w) (relaid w (held w) (removeAtomsBy i tree (held w)))
-    unfolding removeAtomsBy
-    by-refused tree t h c q = rw (there .there, tree-refused (readTree tree) c (sym h ∙ q))
+        → (editedNumbers (Edited.Refused c), w) ≡ stepBy w (removeAtomsBy i tree)
+    unfolding stepBy removeAtomsBy
+    by-refused tree t h c q = rw (g, there .there, tree-refused (readTree tree) c (sym h ∙ q))
 
     module _ (tree residues atoms : List ℕ) (a : residues ≡ tables .residues) (b : atoms ≡ tables .atoms) (to : ℕ) (s : List ℕ)
         (c : Compacted (staying residues atoms tree) (start + 1) stop w to s) where
@@ -134,9 +133,9 @@ module _ (w : List ℕ) (i : ℕ) (g : Good w) (r : Span.Span) (e : r ≡ spanOf
 
       pub by-done : (t : CheckedTree.CheckedTree) → t ≡ checked (readTree tree) → t ≡ CheckedTree.the-variants.Good
           → (v : List ℕ) → v ≡ laid (length s) (concat (take to (recordsOf s) ++ drop stop (recordsOf s)))
-          → _≡_ {A = List ℕ × List ℕ} (editedNumbers (Edited.Done 1 (stop - to)), v) (relaid w (held w) (removeAtomsBy i tree (held w)))
-      unfolding removeAtomsBy spared
+          → (editedNumbers (Edited.Done 1 (stop - to)), v) ≡ stepBy w (removeAtomsBy i tree)
+      unfolding stepBy removeAtomsBy spared
       by-done t h q v u =
           let l = atoms-laid w g i start stop there (spared tables tree) to s among v u in
           let n = atoms-removed w g i start stop there (spared tables tree) to s among in
-          rw (there .there, tree-then (readTree tree) _ (sym h ∙ q), n, l)
+          rw (g, there .there, tree-then (readTree tree) _ (sym h ∙ q), n, l)

@@ -12,9 +12,9 @@ ghost use lib.ListN.{length, take, drop};
 ghost use Rattle.machine.specs.Answer.{editedNumbers};
 ghost use Rattle.machine.specs.Kleene.{isTrue};
 ghost use Rattle.machine.specs.Query.{readTree};
-ghost use Rattle.machine.specs.Edit.{removeAtomsBy, relaid};
+ghost use Rattle.machine.specs.Edit.{removeAtomsBy, stepBy};
 ghost use Rattle.moves.specs.Over.{over};
-ghost use Rattle.seek.specs.Seek.{held, Good, Within, recordAt};
+ghost use Rattle.seek.specs.Seek.{Good, Within, recordAt};
 ghost use Rattle.search.specs.Nodes.{checked};
 ghost use Rattle.search.specs.declared.CheckedTree.the-variants as Tree;
 ghost use Rattle.prunings.specs.Prune.{Compacted};
@@ -87,7 +87,7 @@ fn compact(
 // The atoms of a model at which a tree is true go. Refused in order: 5 by the position, 3 and 4 by the tree.
 pub fn remove_atoms_by(store: &mut [u64], model: u64, tree: &[u64]) -> Edited
     requires { ⌜ Good (now store) ⌝ }
-    ensures { λ r. ⌜ (editedNumbers r, now (store .exit)) ≡ relaid (now (store .entry)) (held (now (store .entry))) (removeAtomsBy model (now (tree .entry)) (held (now (store .entry)))) ⌝ }
+    ensures { λ r. ⌜ (editedNumbers r, now (store .exit)) ≡ stepBy (now (store .entry)) (removeAtomsBy model (now (tree .entry))) ⌝ }
 {
     let position = [model];
     let Span::At(start, end) = seek::locate(store, &position) else {

@@ -10,7 +10,7 @@ use Rattle.machine.specs.Text.{Optional}
 use Rattle.machine.specs.Record.{Words}
 use Rattle.machine.specs.Store.{Machine, stored, goodLength, recordsOf, inOrder, goodLayout, group, readStore}
 use Rattle.machine.specs.Find.{hitsOf, findRun}
-use Rattle.machine.specs.Edit.{Call, storeStep}
+use Rattle.machine.specs.Edit.{Change, stepBy}
 use Rattle.machine.specs.Lookup.{lookupRun}
 use Rattle.machine.specs.declared.Refusal.{Refusal}
 use Rattle.machine.specs.declared.Refusal.the-variants.{BadLength, BrokenLayout}
@@ -64,9 +64,9 @@ module _ {c : Refusal} (w : List ℕ) (h : Refused c ≡ checkedBy (readStore w)
   unfolding findRun
   refused-find t out = rw (refused-hits t)
 
-  pub refused-step : (call : Call) → storeStep w call ≡ (editedNumbers (Edited.the-variants.Refused c), w)
-  unfolding storeStep
-  refused-step call = rw refused-store
+  pub refused-step : (step : Machine → Result Change) → stepBy w step ≡ (editedNumbers (Edited.the-variants.Refused c), w)
+  unfolding stepBy
+  refused-step step = rw refused-store
 
   pub refused-lookup : (serial : ℕ) (location : Optional) → lookupRun w serial location ≡ lookedUpNumbers (LookedUp.the-variants.Refused c)
   unfolding lookupRun

@@ -3,10 +3,9 @@ ghost use mathlib.Core.Path.{_≡_};
 ghost use Prim.Native.Nat.{_≤_};
 ghost use lib.ListN.{length};
 ghost use Rattle.machine.specs.Answer.{editedNumbers};
-ghost use Rattle.machine.specs.Edit.{withMachine};
+ghost use Rattle.machine.specs.Edit.{stepBy};
 ghost use Rattle.removals.specs.Removal.{removal};
 ghost use Rattle.joins.specs.Join.{join};
-ghost use Rattle.structs.specs.Step.{stepBy};
 use machine::Edited;
 use store::Checked;
 
@@ -23,7 +22,7 @@ pub fn remove_at(store: &mut [u64], position: &[u64]) -> Edited
 
 pub fn join_at(store: &mut [u64], first: &[u64], second: &[u64]) -> Edited
     requires { ⌜ (1 ≤ length (now first)) × (length (now first) ≤ 4) × (length (now first) ≡ length (now second)) ⌝ }
-    ensures { λ r. ⌜ (editedNumbers r, now (store .exit)) ≡ stepBy (now (store .entry)) (λ m. withMachine (join (now (first .entry)) (now (second .entry)) m)) ⌝ }
+    ensures { λ r. ⌜ (editedNumbers r, now (store .exit)) ≡ stepBy (now (store .entry)) (join (now (first .entry)) (now (second .entry))) ⌝ }
 {
     let checked = store::check(store);
     match checked {

@@ -1,8 +1,7 @@
 -- `structs::conformer::remove_atom_by_serial_number` meets its contract. Assumes nothing.
 use borrow.Author.Needs.{needs}
-use Rattle.store.specs.Steps.{good, stepped}
-use Rattle.structs.proofs.Laws.{refused-call}
-use Rattle.removals.specs.Named.{atom-step}
+use Rattle.store.specs.Steps.{good}
+use Rattle.structs.proofs.Laws.{atom-by-serial, refused-call}
 use Rattle.structs.proofs.conformer.remove_atom_by_serial_number.Statement.{statement}
 use Rattle.structs.proofs.conformer.remove_atom_by_serial_number.Tie as tie
 
@@ -28,7 +27,7 @@ same-length-2 : tie.Need-same-length-2
 same-length-2 c = search needs
 
 returns-2 : tie.Need-returns-2
-returns-2 c = search (needs, good, stepped, atom-step)
+returns-2 c = search (needs, atom-by-serial)
 
 pub remove-atom-by-serial-number-spec : {M : Type 1} → statement M
 remove-atom-by-serial-number-spec =

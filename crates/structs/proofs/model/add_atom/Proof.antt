@@ -1,6 +1,6 @@
 -- `structs::model::add_atom` meets its contract. Assumes nothing.
 use borrow.Author.Needs.{needs}
-use Rattle.store.specs.Steps.{good, stepped}
+use Rattle.store.specs.Steps.{good}
 use Rattle.structs.proofs.Laws.{atom-added, refused-call}
 use Rattle.structs.proofs.model.add_atom.Statement.{statement}
 use Rattle.structs.proofs.model.add_atom.Tie as tie
@@ -27,7 +27,7 @@ same-length-2 : tie.Need-same-length-2
 same-length-2 c = search needs
 
 returns-2 : tie.Need-returns-2
-returns-2 c = search (needs, good, stepped, atom-added)
+returns-2 c = search (needs, atom-added)
 
 pub add-atom-spec : {M : Type 1} → statement M
 add-atom-spec =

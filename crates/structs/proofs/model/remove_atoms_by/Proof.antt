@@ -1,6 +1,6 @@
 -- `structs::model::remove_atoms_by` meets its contract. Assumes nothing.
 use borrow.Author.Needs.{needs}
-use Rattle.store.specs.Steps.{good, stepped}
+use Rattle.store.specs.Steps.{good}
 use Rattle.structs.proofs.Laws.{atoms-removed, refused-call}
 use Rattle.structs.proofs.model.remove_atoms_by.Statement.{statement}
 use Rattle.structs.proofs.model.remove_atoms_by.Tie as tie
@@ -27,7 +27,7 @@ same-length-2 : tie.Need-same-length-2
 same-length-2 c = search needs
 
 returns-2 : tie.Need-returns-2
-returns-2 c = search (needs, good, stepped, atoms-removed)
+returns-2 c = search (needs, atoms-removed)
 
 pub remove-atoms-by-spec : {M : Type 1} → statement M
 remove-atoms-by-spec =

@@ -1,6 +1,6 @@
 -- `structs::pdb::add_model` meets its contract. Assumes nothing.
 use borrow.Author.Needs.{needs}
-use Rattle.store.specs.Steps.{good, stepped}
+use Rattle.store.specs.Steps.{good}
 use Rattle.structs.proofs.Laws.{model-added, refused-call}
 use Rattle.structs.proofs.pdb.add_model.Statement.{statement}
 use Rattle.structs.proofs.pdb.add_model.Tie as tie
@@ -27,7 +27,7 @@ same-length-2 : tie.Need-same-length-2
 same-length-2 c = search needs
 
 returns-2 : tie.Need-returns-2
-returns-2 c = search (needs, good, stepped, model-added)
+returns-2 c = search (needs, model-added)
 
 pub add-model-spec : {M : Type 1} → statement M
 add-model-spec =

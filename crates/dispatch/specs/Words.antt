@@ -1,16 +1,9 @@
 -- A call of a list by its words. Assumes nothing.
 use Prim.Native.Nat.{ℕ, _+_, _%_, _≤_}
 use mathlib.Core.Path.{_≡_}
-use mathlib.Core.List.{List, [], map}
-use mathlib.Core.Option.{Option, none, some}
+use mathlib.Core.List.{List, map}
 use lib.ListN.{length, getD, take}
-use Rattle.machine.specs.Edit.{Call, storeStep}
 use Rattle.additions.specs.declared.NewAtom as Values
-
--- one call of the list, if it is one
-abbrev pub stepOf : List ℕ → Option Call → List ℕ × List ℕ
-stepOf w none = ([], w)
-stepOf w (some c) = storeStep w c
 
 abbrev pub lowByte : ℕ → ℕ
 lowByte n = n % 256
