@@ -24,13 +24,13 @@ use Rattle.laws.specs.Numbers.{five-numbers, atoms-stored}
 use Rattle.moves.specs.Over.{over}
 use Rattle.moves.proofs.Laws.{over-length, over-none, over-over}
 use Rattle.seek.specs.Seek.{between, held}
-use Rattle.seek.specs.Below.{record-kind, between-cons}
-use Rattle.seek.specs.Laws.{whole-within}
+use Rattle.seek.proofs.Below.{record-kind, between-cons}
+use Rattle.seek.proofs.Laws.{whole-within}
 use Rattle.store.specs.Store.{checkedBy}
-use Rattle.store.specs.Laws.{Held, good-store, refused-find}
+use Rattle.store.proofs.Laws.{Held, good-store, refused-find}
 use Rattle.store.specs.declared.Checked as Checked
 use Rattle.search.specs.Nodes.{checked}
-use Rattle.search.specs.Laws.{tree-then, tree-refused}
+use Rattle.search.proofs.Laws.{tree-then, tree-refused}
 use Rattle.search.specs.declared.CheckedTree as CheckedTree
 use Rattle.terms.specs.Levels.{numbersIn, Inside}
 use Rattle.walk.specs.Walk.{five, pick, enteredAt, valueBy, Sure, Turned, foundIn, wrote, Levelled, UpTo, Ready, Asked, start}

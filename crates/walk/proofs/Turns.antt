@@ -21,7 +21,7 @@ use Rattle.laws.specs.Trees.{tree-grows}
 use Rattle.laws.specs.Windows.{term-grows}
 use Rattle.laws.specs.Scan.{above}
 use Rattle.seek.specs.Seek.{between}
-use Rattle.seek.specs.Below.{record-kind, between-cons, between-nil}
+use Rattle.seek.proofs.Below.{record-kind, between-cons, between-nil}
 use Rattle.terms.specs.Levels.{recordAt, placeAt, valueAt}
 use Rattle.search.specs.Nodes.{checked, lowestFrom}
 use Rattle.search.specs.declared.CheckedTree.the-variants.{Good}

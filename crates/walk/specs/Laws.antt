@@ -19,7 +19,7 @@ use Rattle.laws.specs.Layout.{read-parts, records-read}
 use Rattle.laws.specs.Ordered.{head-parts}
 use Rattle.laws.specs.Windows.{pruned}
 use Rattle.seek.specs.Seek.{Good, held, between}
-use Rattle.seek.specs.Laws.{whole-records}
+use Rattle.seek.proofs.Laws.{whole-records}
 use Rattle.walk.specs.Sieve.{sieve}
 use Rattle.walk.specs.Pruned.{Grows, sieve-machine}
 use Rattle.walk.specs.Walk.{siteAt, start, mayHit, foundIn, Levelled}

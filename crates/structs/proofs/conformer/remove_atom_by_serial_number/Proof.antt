@@ -1,6 +1,6 @@
 -- `structs::conformer::remove_atom_by_serial_number` meets its contract. Assumes nothing.
 use borrow.Author.Needs.{needs}
-use Rattle.store.specs.Steps.{good, stepped}
+use Rattle.store.proofs.Steps.{good, stepped}
 use Rattle.structs.proofs.Laws.{refused-call}
 use Rattle.removals.specs.Named.{atom-step}
 use Rattle.structs.proofs.conformer.remove_atom_by_serial_number.Statement.{statement}

@@ -1,6 +1,6 @@
 -- `structs::model::remove_chain_by_id` meets its contract. Assumes nothing.
 use borrow.Author.Needs.{needs}
-use Rattle.store.specs.Steps.{good, stepped}
+use Rattle.store.proofs.Steps.{good, stepped}
 use Rattle.structs.proofs.Laws.{refused-call}
 use Rattle.removals.specs.Named.{chain-step}
 use Rattle.structs.proofs.model.remove_chain_by_id.Statement.{statement}

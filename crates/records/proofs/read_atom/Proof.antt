@@ -1,8 +1,8 @@
--- `store::read_atom` meets its contract: its calls, at the words of one record. Assumes nothing.
+-- `records::read_atom` meets its contract: its calls, at the words of one record. Assumes nothing.
 use borrow.Author.Needs.{needs}
-use Rattle.store.proofs.Turns.{atom-read}
-use Rattle.store.proofs.read_atom.Statement.{statement}
-use Rattle.store.proofs.read_atom.Tie as tie
+use Rattle.records.proofs.Laws.{atom-read}
+use Rattle.records.proofs.read_atom.Statement.{statement}
+use Rattle.records.proofs.read_atom.Tie as tie
 
 mul-at : tie.Need-mul-at
 mul-at c = search needs

@@ -1,8 +1,8 @@
--- `store::finite_words` meets its contract: the five tests are `all` over the five words. Assumes nothing.
-use Rattle.store.proofs.Laws.{finite-words}
+-- `records::finite_words` meets its contract: the five tests are `all` over the five words. Assumes nothing.
+use Rattle.records.proofs.Laws.{finite-words}
 use borrow.Author.Needs.{needs}
-use Rattle.store.proofs.finite_words.Statement.{statement}
-use Rattle.store.proofs.finite_words.Tie as tie
+use Rattle.records.proofs.finite_words.Statement.{statement}
+use Rattle.records.proofs.finite_words.Tie as tie
 
 shared-slice-read-is-finite : tie.Need-shared-slice-read-is-finite
 shared-slice-read-is-finite c = search needs

@@ -1,8 +1,8 @@
--- `store::unnamed_zero` meets its contract: the nine tests are `same` over the nine words. Assumes nothing.
-use Rattle.store.proofs.Laws.{unnamed-zero}
+-- `records::unnamed_zero` meets its contract: the nine tests are `same` over the nine words. Assumes nothing.
+use Rattle.records.proofs.Laws.{unnamed-zero}
 use borrow.Author.Needs.{needs}
-use Rattle.store.proofs.unnamed_zero.Statement.{statement}
-use Rattle.store.proofs.unnamed_zero.Tie as tie
+use Rattle.records.proofs.unnamed_zero.Statement.{statement}
+use Rattle.records.proofs.unnamed_zero.Tie as tie
 
 shared-slice-read-result : tie.Need-shared-slice-read-result
 shared-slice-read-result c = search needs

@@ -1,8 +1,8 @@
--- `store::good_record` meets its contract: one law of `goodRecord` for each kind above the atoms, and one for all other words. Assumes nothing.
-use Rattle.store.proofs.Laws.{conformer-record, residue-record, chain-record, model-record, no-record}
+-- `records::good_record` meets its contract: one law of `goodRecord` for each kind above the atoms, and one for all other words. Assumes nothing.
+use Rattle.records.proofs.Laws.{conformer-record, residue-record, chain-record, model-record, no-record}
 use borrow.Author.Needs.{needs}
-use Rattle.store.proofs.good_record.Statement.{statement}
-use Rattle.store.proofs.good_record.Tie as tie
+use Rattle.records.proofs.good_record.Statement.{statement}
+use Rattle.records.proofs.good_record.Tie as tie
 
 shared-slice-read-match : tie.Need-shared-slice-read-match
 shared-slice-read-match c = search needs

@@ -1,8 +1,8 @@
--- `store::good_atom` meets its contract, by the law of `goodRecord` at the atoms' level. Assumes nothing.
-use Rattle.store.proofs.Laws.{atom-record}
+-- `records::good_atom` meets its contract, by the law of `goodRecord` at the atoms' level. Assumes nothing.
+use Rattle.records.proofs.Laws.{atom-record}
 use borrow.Author.Needs.{needs}
-use Rattle.store.proofs.good_atom.Statement.{statement}
-use Rattle.store.proofs.good_atom.Tie as tie
+use Rattle.records.proofs.good_atom.Statement.{statement}
+use Rattle.records.proofs.good_atom.Tie as tie
 
 shared-slice-read-stored-atom-name : tie.Need-shared-slice-read-stored-atom-name
 shared-slice-read-stored-atom-name c = search needs

@@ -13,7 +13,7 @@ use Rattle.laws.specs.Layout.{read-layOut, fit-words, read-length, read-fit, re
 use Rattle.laws.specs.Grouped.{group-flats}
 use Rattle.laws.specs.Steps.{step-keeps}
 use Rattle.store.specs.Store.{checkedBy}
-use Rattle.store.specs.Laws.{good-store}
+use Rattle.store.proofs.Laws.{good-store}
 use Rattle.store.specs.declared.Checked as Checked
 use Rattle.seek.specs.Seek.{held, Good}
 
