@@ -3,38 +3,22 @@ use Prim.Native.Nat.{ℕ, zero, suc, _+_, _-_, _≤_, _<_}
 use mathlib.Core.Path.{_≡_, refl, sym, ap, _∙_}
 use mathlib.Core.Bool.{Bool, true, false, cond}
 use mathlib.Core.List.{List, [], _∷_}
-use mathlib.Core.Option.{Option}
 use native.Mathlib.Omega.{arith}
 use lib.ListN.{length, take, length-append, length-take}
 use lib.Seq.{take-append-le, take-all, take-take}
-use lib.Dec.{ltb, leb, eqb}
-use borrow.Author.Tests.{leb-true, le-leb, le-ltb, lt-ltb, ltb-true, ltb-false}
+use lib.Dec.{ltb, eqb}
+use borrow.Author.Tests.{le-ltb, lt-ltb, ltb-true, ltb-false}
 use Rattle.machine.specs.Lists.{keep, those}
 use Rattle.machine.specs.Record.{Fields, Words, kind, fieldsOf}
 use Rattle.machine.specs.Store.{Machine, records, inOrder}
-use Rattle.machine.specs.Query.{Place, onlyIf, window}
+use Rattle.machine.specs.Query.{Place, window}
 use Rattle.machine.specs.Find.{Site, enter, below, top, atomsOf}
 use Rattle.laws.specs.Ordered.{HeadParts, head-parts}
 use Rattle.laws.specs.Scan.{above, siteOf, scan, window-enter, scan-machine}
+use Rattle.descent.proofs.Sites.{window-window, above-above}
 use Rattle.walk.specs.Sieve.{depth, sieve}
 
 -- ---- places
-
-only-more : {A : Type 0} (a b : Bool) (o : Option A) → (a ≡ true → b ≡ true) → onlyIf a (onlyIf b o) ≡ onlyIf a o
-only-more false b o i = refl
-only-more true b o i = rw (i refl)
-
-pub window-window : (a b : ℕ) → a ≤ b → (e : Place) → window 1 a (window 1 b e) ≡ window 1 a e
-unfolding window
-window-window a b l e =
-    let up : (j : ℕ) → leb j a ≡ true → leb j b ≡ true = λ j h. le-leb j b (omega (arith, leb-true j a h)) in
-    λ i. record {
-      model = only-more (leb 1 a) (leb 1 b) (e .model) (up 1) i;
-      chain = only-more (leb 2 a) (leb 2 b) (e .chain) (up 2) i;
-      residue = only-more (leb 3 a) (leb 3 b) (e .residue) (up 3) i;
-      conformer = only-more (leb 4 a) (leb 4 b) (e .conformer) (up 4) i;
-      atom = only-more (leb 5 a) (leb 5 b) (e .atom) (up 5) i;
-    }
 
 -- with the level that is entered, all is known that was entered
 enter-all : (k : ℕ) → 1 ≤ k → k ≤ 5 → (f : Fields (5 - k)) (e : Place) → window 1 k (enter (5 - k) f (window 1 (k - 1) e)) ≡ enter (5 - k) f (window 1 (k - 1) e)
@@ -48,12 +32,6 @@ enter-all (suc (suc (suc (suc (suc zero))))) l h f e = refl
 enter-all (suc (suc (suc (suc (suc (suc k)))))) l h f e = absurd (omega arith)
 
 -- ---- sites
-
-pub above-above : (a b : ℕ) → a ≤ b → (s : Site) → above a (above b s) ≡ above a s
-above-above a b l s =
-    let p = take-take (a - 1) (b - 1) (s .numbers) (omega arith) in
-    let q = window-window (a - 1) (b - 1) (omega arith) (s .place) in
-    λ i. record { numbers = p i; place = q i }
 
 module _ (n : ℕ) (s : Site) (r : Words) (low : 1 ≤ kind r) (high : kind r ≤ 5) where
   upper : length (take (kind r - 1) (s .numbers)) + 1 ≡ depth (siteOf n s r)

@@ -1,16 +1,14 @@
 -- What is found in a whole store: its hits. Assumes nothing.
 use Prim.Native.Nat.{ℕ, _-_}
 use mathlib.Core.Path.{_≡_, refl, ap}
-use mathlib.Core.Bool.{Bool, true, false, _&&_}
+use mathlib.Core.Bool.{true, false}
 use mathlib.Core.List.{List, [], _∷_, map}
-use mathlib.Core.Option.{Option}
 use native.Mathlib.Omega.{arith}
 use lib.ListN.{length}
-use lib.Dec.{leb}
 use Rattle.machine.specs.Record.{Words, kind}
 use Rattle.machine.specs.Store.{Machine, records, inOrder}
 use Rattle.machine.specs.Kleene.{isHit}
-use Rattle.machine.specs.Query.{Place, Names, onlyIf, treeValue, termValue, window}
+use Rattle.machine.specs.Query.{Names, treeValue, termValue, window}
 use Rattle.machine.specs.Find.{Site, top, hitsIn}
 use Rattle.machine.specs.declared.Tri.{Tri}
 use Rattle.machine.specs.declared.Tri.the-variants.{False, True, Undecided}
@@ -20,25 +18,11 @@ use Rattle.laws.specs.Ordered.{head-parts}
 use Rattle.laws.specs.Windows.{pruned}
 use Rattle.seek.specs.Seek.{Good, held, between}
 use Rattle.seek.proofs.Laws.{whole-records}
+use Rattle.descent.specs.Descent.{siteAt, start}
+use Rattle.descent.proofs.Sites.{window-from}
 use Rattle.walk.specs.Sieve.{sieve}
-use Rattle.walk.specs.Pruned.{Grows, sieve-machine}
-use Rattle.walk.specs.Walk.{siteAt, start, mayHit, foundIn, Levelled}
-
-only-both : {A : Type 0} (a b : Bool) (o : Option A) → onlyIf (a && true) (onlyIf b o) ≡ onlyIf (a && b) o
-only-both true b o = refl
-only-both false b o = refl
-
--- the kinds from low on of those up to k
-pub window-from : (low k : ℕ) (e : Place) → window low 5 (window 1 k e) ≡ window low k e
-unfolding window
-window-from low k e =
-    λ i. record {
-      model = only-both (leb low 1) (leb 1 k) (e .model) i;
-      chain = only-both (leb low 2) (leb 2 k) (e .chain) i;
-      residue = only-both (leb low 3) (leb 3 k) (e .residue) i;
-      conformer = only-both (leb low 4) (leb 4 k) (e .conformer) i;
-      atom = only-both (leb low 5) (leb 5 k) (e .atom) i;
-    }
+use Rattle.walk.proofs.Pruned.{Grows, sieve-machine}
+use Rattle.walk.specs.Walk.{mayHit, foundIn, Levelled}
 
 no-hit : (v : Tri) → isHit v ≡ false → v ≡ False
 no-hit False e = refl

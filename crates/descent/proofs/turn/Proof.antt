@@ -1,9 +1,9 @@
--- `walk::turn` meets its contract: a tree that is true above a record is true there, one that asks for no kind that is known is undecided, and else its value says what is below. Assumes nothing.
+-- `descent::turn` meets its contract: a tree that is true above a record is true there, one that asks for no kind that is known is undecided, and else its value says what is below. Assumes nothing.
 use borrow.Author.Needs.{needs}
 use Rattle.terms.specs.Levels.{numbersIn}
-use Rattle.walk.proofs.Turns.{turn-sure, turn-quiet, turn-false, turn-true, turn-undecided}
-use Rattle.walk.proofs.turn.Statement.{statement}
-use Rattle.walk.proofs.turn.Tie as tie
+use Rattle.descent.proofs.Turns.{turn-sure, turn-quiet, turn-false, turn-true, turn-undecided}
+use Rattle.descent.proofs.turn.Statement.{statement}
+use Rattle.descent.proofs.turn.Tie as tie
 
 new-requires : tie.Need-new-requires
 new-requires c κs = search needs
