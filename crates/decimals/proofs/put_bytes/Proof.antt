@@ -1,13 +1,13 @@
--- `program::put_bytes` meets its contract. The loop's invariant: the bytes passed stand over the text, which keeps its length. Assumes nothing.
+-- `decimals::put_bytes` meets its contract. The loop's invariant: the bytes passed stand over the text, which keeps its length. Assumes nothing.
 use Prim.Native.Nat.{_≤_, _-_}
 use mathlib.Core.Path.{_≡_}
 use lib.ListN.{length, take}
 use borrow.Author.Needs.{needs}
 use Rattle.moves.specs.Over.{over}
 use Rattle.moves.proofs.Turns.{write-start, write-turn}
-use Rattle.program.proofs.Laws.{bytes-end}
-use Rattle.program.proofs.put_bytes.Statement.{statement}
-use Rattle.program.proofs.put_bytes.Tie as tie
+use Rattle.decimals.proofs.Laws.{bytes-end}
+use Rattle.decimals.proofs.put_bytes.Statement.{statement}
+use Rattle.decimals.proofs.put_bytes.Tie as tie
 
 abbrev Inv-loop : tie.InvT-loop
 Inv-loop text₀ at b written₀ text written = (written ≤ length b) × (text ≡ over at (take written b) text₀) × (length text ≡ length text₀)

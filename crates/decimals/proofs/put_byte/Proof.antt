@@ -1,8 +1,8 @@
--- `program::put_byte` meets its contract. Assumes nothing.
+-- `decimals::put_byte` meets its contract. Assumes nothing.
 use borrow.Author.Needs.{needs}
-use Rattle.program.proofs.Laws.{put-one}
-use Rattle.program.proofs.put_byte.Statement.{statement}
-use Rattle.program.proofs.put_byte.Tie as tie
+use Rattle.decimals.proofs.Laws.{put-one}
+use Rattle.decimals.proofs.put_byte.Statement.{statement}
+use Rattle.decimals.proofs.put_byte.Tie as tie
 
 slice-write-text : tie.Need-slice-write-text
 slice-write-text c = search needs

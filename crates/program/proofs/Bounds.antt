@@ -26,7 +26,8 @@ use Rattle.laws.specs.Numbers.{siteNumber, numbers-rise}
 use Rattle.laws.specs.Layout.{read-fit}
 use Rattle.search.proofs.Nodes.{node-refused}
 use Rattle.demands.specs.Runs.{fives-words, hits-five}
-use Rattle.program.specs.Parts.{words-length}
+use Rattle.decimals.proofs.Laws.{digits-few}
+use Rattle.program.proofs.Parts.{words-length}
 use Rattle.program.specs.Text.{line, lines, lastLine, answered}
 
 -- ---- the hits
@@ -172,15 +173,6 @@ find-has-room bs i e out l h = go (hitsOf (i .store) (i .tree)) refl h
     go (refused r) f h = hits-other (i .store) (i .tree) r f cc
 
 -- ---- the text
-
-pub digits-few : (k n : ℕ) → length (digits k n) ≤ k
-unfolding digits
-digits-few zero n = omega arith
-digits-few (suc k) n = go (ltb n 10) (digits-few k (n / 10))
-  where
-    go : (b : Bool) → length (digits k (n / 10)) ≤ k → length (cond b (digit n ∷ []) (digits k (n / 10) ++ (digit (n % 10) ∷ []))) ≤ suc k
-    go true h = omega arith
-    go false h = omega (arith, length-append (digits k (n / 10)) (digit (n % 10) ∷ []))
 
 spaced-few : (n : ℕ) (ns : List ℕ) → length (spaced (n ∷ ns)) + 1 ≤ 21 * length (n ∷ ns)
 spaced-few n [] = omega (arith, digits-few 20 n)

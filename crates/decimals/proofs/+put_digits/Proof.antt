@@ -1,15 +1,15 @@
--- `program::put_digits` meets its contract: the digits of a tenth of the number, then its last one. The measure is the number of places. Assumes nothing.
+-- `decimals::put_digits` meets its contract: the digits of a tenth of the number, then its last one. The measure is the number of places. Assumes nothing.
 use Prim.Native.Nat.{ℕ, _<_}
 use borrow.Author.Needs.{needs}
 use borrow.Fn.Kinds.{In}
 use borrow.Fn.PlainCycle.{Measures, is, falls, and}
-use Rattle.program.proofs.Laws.{digits-none, digits-one, digits-more, digits-room}
-use Rattle.program.proofs.put_digits.Reads as put-digits
-use Rattle.program.proofs.put_digits.Kinds as put-digits-kinds
-use Rattle.program.proofs.+put_digits.Lts-put_digits as put-digits-lts
-use Rattle.program.proofs.put_byte.Reads as put-byte-reads
-use Rattle.program.proofs.+put_digits.{statement}
-use Rattle.program.proofs.+put_digits.Tie.{close}
+use Rattle.decimals.proofs.Laws.{digits-none, digits-one, digits-more, digits-room}
+use Rattle.decimals.proofs.put_digits.Reads as put-digits
+use Rattle.decimals.proofs.put_digits.Kinds as put-digits-kinds
+use Rattle.decimals.proofs.+put_digits.Lts-put_digits as put-digits-lts
+use Rattle.decimals.proofs.put_byte.Reads as put-byte-reads
+use Rattle.decimals.proofs.+put_digits.{statement}
+use Rattle.decimals.proofs.+put_digits.Tie.{close}
 
 abbrev μ-put-digits : Measures 1 put-digits-kinds.ps ℕ
 μ-put-digits κs a = a .1 .1 .1 .0

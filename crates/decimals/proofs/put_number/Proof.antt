@@ -1,8 +1,8 @@
--- `program::put_number` meets its contract. Assumes nothing.
+-- `decimals::put_number` meets its contract. Assumes nothing.
 use borrow.Author.Needs.{needs}
-use Rattle.program.proofs.Laws.{number-room, number-law}
-use Rattle.program.proofs.put_number.Statement.{statement}
-use Rattle.program.proofs.put_number.Tie as tie
+use Rattle.decimals.proofs.Laws.{number-room, number-law}
+use Rattle.decimals.proofs.put_number.Statement.{statement}
+use Rattle.decimals.proofs.put_number.Tie as tie
 
 put-digits-requires : tie.Need-put-digits-requires
 put-digits-requires c κs = search needs
