@@ -79,7 +79,7 @@ fn ready(
 ) -> Readied
     ensures { λ r. ⌜ resultOf r ≡ prepare (named (now (chain .entry)) (optionalOf «code_flag» (now (code .entry))) (now (conformer .entry)) (optionalOf «location_flag» (now (location .entry))) (now (name .entry))) ⌝ }
 {
-    let Word::Is(chain_word) = word_of(helper::prepare_identifier(chain)) else {
+    let Word::Is(chain_word) = word_of(helper::prepare_chain_id(chain)) else {
         return Readied::Bad;
     };
     let Word::Is(code_word) = word_of(helper::prepare_optional_code(code_flag, code)) else {

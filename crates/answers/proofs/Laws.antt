@@ -2,15 +2,14 @@
 use Prim.Native.Nat.{ℕ}
 use mathlib.Core.Path.{_≡_}
 use mathlib.Core.List.{[], _∷_}
-use Rattle.machine.specs.Answer.{refusalNumber, openedNumbers, editedNumbers, foundNumbers, lookedUpNumbers}
+use Rattle.machine.specs.Answer.{refusalNumber, openedNumbers, editedNumbers, foundNumbers, lookedUpNumbers, editFields, findFields, lookupFields}
 use Rattle.machine.specs.declared.Refusal.{Refusal}
 use Rattle.machine.specs.declared.RecordNumbers.{RecordNumbers}
 use Rattle.machine.specs.declared.Opened as Opened
 use Rattle.machine.specs.declared.Edited as Edited
 use Rattle.machine.specs.declared.Found as Found
 use Rattle.machine.specs.declared.LookedUp as LookedUp
-use Rattle.answers.specs.declared.Lookup.{Lookup}
-use Rattle.answers.specs.Fields.{editFields, findFields, lookupFields}
+use Rattle.machine.specs.declared.LookupAnswer.{LookupAnswer}
 
 pub open-done : (o : Opened.Opened) → o ≡ Opened.the-variants.Done → (0 ∷ []) ≡ openedNumbers o
 open-done o h = rw h
@@ -37,10 +36,10 @@ pub lookup-at : (l : LookedUp.LookedUp) (at : RecordNumbers) → l ≡ LookedUp.
     → lookupFields (record { result = 0; found = 1; model = at .model; chain = at .chain; residue = at .residue; conformer = at .conformer; atom = at .atom }) ≡ lookedUpNumbers l
 lookup-at l at h = rw h
 
-pub lookup-none : (l : LookedUp.LookedUp) (x : Lookup) → l ≡ LookedUp.the-variants.NotFound
+pub lookup-none : (l : LookedUp.LookedUp) (x : LookupAnswer) → l ≡ LookedUp.the-variants.NotFound
     → x ≡ record { result = 0; found = 0; model = 0; chain = 0; residue = 0; conformer = 0; atom = 0 } → lookupFields x ≡ lookedUpNumbers l
 lookup-none l x h q = rw (h, q)
 
-pub lookup-refused : (l : LookedUp.LookedUp) (r : Refusal) (n : ℕ) (x : Lookup) → l ≡ LookedUp.the-variants.Refused r → n ≡ refusalNumber r
+pub lookup-refused : (l : LookedUp.LookedUp) (r : Refusal) (n : ℕ) (x : LookupAnswer) → l ≡ LookedUp.the-variants.Refused r → n ≡ refusalNumber r
     → x ≡ record { result = n; found = 0; model = 0; chain = 0; residue = 0; conformer = 0; atom = 0 } → lookupFields x ≡ lookedUpNumbers l
 lookup-refused l r n x h p q = rw (h, q, p)

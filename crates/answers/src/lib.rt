@@ -1,11 +1,13 @@
 // Each answer as the numbers that document 01 gives it.
 ghost use mathlib.Core.Path.{_≡_};
 ghost use mathlib.Core.List.{[], _∷_};
-ghost use Rattle.machine.specs.Answer.{refusalNumber, openedNumbers, editedNumbers, foundNumbers, lookedUpNumbers};
-ghost use Rattle.answers.specs.Fields.{editFields, findFields, lookupFields};
+ghost use Rattle.machine.specs.Answer.{refusalNumber, openedNumbers, editedNumbers, foundNumbers, lookedUpNumbers, editFields, findFields, lookupFields};
+use machine::EditAnswer;
 use machine::Edited;
+use machine::FindAnswer;
 use machine::Found;
 use machine::LookedUp;
+use machine::LookupAnswer;
 use machine::Opened;
 use machine::Refusal;
 
@@ -28,31 +30,6 @@ pub fn refusal_number(r: Refusal) -> u64
     }
 }
 
-// "A result is 0 with its fields, or one of these."
-#[repr(C)]
-pub struct Edit {
-    pub result: u64,
-    pub found: u64,
-    pub removed: u64,
-}
-
-#[repr(C)]
-pub struct Find {
-    pub result: u64,
-    pub hits: u64,
-}
-
-#[repr(C)]
-pub struct Lookup {
-    pub result: u64,
-    pub found: u64,
-    pub model: u64,
-    pub chain: u64,
-    pub residue: u64,
-    pub conformer: u64,
-    pub atom: u64,
-}
-
 pub fn of_opened(o: Opened) -> u64
     ensures { λ r. ⌜ (r ∷ []) ≡ openedNumbers o ⌝ }
 {
@@ -62,18 +39,18 @@ pub fn of_opened(o: Opened) -> u64
     }
 }
 
-pub fn of_edited(e: Edited) -> Edit
+pub fn of_edited(e: Edited) -> EditAnswer
     ensures { λ r. ⌜ editFields r ≡ editedNumbers e ⌝ }
 {
     match e {
-        Edited::Done(found, removed) => Edit {
+        Edited::Done(found, removed) => EditAnswer {
             result: 0,
             found: found,
             removed: removed,
         },
         Edited::Refused(refusal) => {
             let n = refusal_number(refusal);
-            Edit {
+            EditAnswer {
                 result: n,
                 found: 0,
                 removed: 0,
@@ -82,25 +59,25 @@ pub fn of_edited(e: Edited) -> Edit
     }
 }
 
-pub fn of_found(f: Found) -> Find
+pub fn of_found(f: Found) -> FindAnswer
     ensures { λ r. ⌜ findFields r ≡ foundNumbers f ⌝ }
 {
     match f {
-        Found::Hits(hits) => Find {
+        Found::Hits(hits) => FindAnswer {
             result: 0,
             hits: hits,
         },
         Found::Refused(refusal) => {
             let n = refusal_number(refusal);
-            Find { result: n, hits: 0 }
+            FindAnswer { result: n, hits: 0 }
         }
     }
 }
 
-fn without_place(result: u64) -> Lookup
+fn without_place(result: u64) -> LookupAnswer
     ensures { λ r. ⌜ r ≡ record { result = result; found = 0; model = 0; chain = 0; residue = 0; conformer = 0; atom = 0 } ⌝ }
 {
-    Lookup {
+    LookupAnswer {
         result: result,
         found: 0,
         model: 0,
@@ -111,11 +88,11 @@ fn without_place(result: u64) -> Lookup
     }
 }
 
-pub fn of_looked_up(l: LookedUp) -> Lookup
+pub fn of_looked_up(l: LookedUp) -> LookupAnswer
     ensures { λ r. ⌜ lookupFields r ≡ lookedUpNumbers l ⌝ }
 {
     match l {
-        LookedUp::At(at) => Lookup {
+        LookedUp::At(at) => LookupAnswer {
             result: 0,
             found: 1,
             model: at.model,

@@ -1,8 +1,8 @@
--- The loops over a text's bytes, a call's parts and a list's calls, and the last arm of a match over the codes. Assumes nothing.
+-- The loops over a text's bytes, a call's parts and a list's calls; the table of the calls. Assumes nothing.
 use Prim.Native.Nat.{ℕ, zero, suc, _+_, _-_, _≤_, _<_}
 use mathlib.Core.Path.{_≡_, refl, sym, ap, _∙_}
 use mathlib.Core.Bool.{Bool, true, false, _&&_, _||_, cond, and-false}
-use mathlib.Core.List.{List, [], _∷_}
+use mathlib.Core.List.{List, [], _∷_, map}
 use mathlib.Core.Option.{Option, none, some, Option·map}
 use native.Mathlib.Omega.{arith}
 use native.Mathlib.Numerals.{add-one}
@@ -10,42 +10,25 @@ use lib.ListN.{length, getD, take, drop, length-drop, drop-of-length-le}
 use lib.Seq.{getD-drop, drop-drop, drop-cons}
 use lib.Dec.{leb, eqb}
 use borrow.Author.Tests.{le-leb, lt-leb, lt-ltb, le-ltb, ne-eqb, eqb-true, eqb-false}
-use Rattle.machine.specs.Lists.{all, any, andThen}
+use Rattle.machine.specs.Lists.{all, andThen}
 use Rattle.machine.specs.Edit.{Call}
 use Rattle.laws.specs.Lists.{and-both}
-use Rattle.calls.specs.Format.{isByte, numbersIn, partsIn, goodPart, readParts, readCall, longest, readCalls}
+use Rattle.calls.specs.Format.{Row, rows, noRow, rowOf, shapeOf, isCode, isByte, numbersIn, textsIn, treesIn, partsIn, goodPart, readParts, readCall, longest, readCalls}
 use Rattle.calls.specs.Counted.{isSome, countedOf}
-use Rattle.calls.specs.Laws.{call-fold, calls-none, calls-fold}
+use Rattle.calls.proofs.Reading.{call-fold, calls-none, calls-fold}
 use Rattle.calls.specs.declared.Counted.{Counted}
 use Rattle.calls.specs.declared.Counted.the-variants.{Calls, Bad}
 
--- ---- numbers_in, parts_in
+-- ---- row
 
--- the codes whose arms a match has passed, the last first
-abbrev pub Passed : ℕ → List ℕ → Type 0
-Passed code [] = Unit {0}
-Passed code (k ∷ ks) = Passed code ks × (code ≡ k → ⊥)
+row-at : (rs : List Row) (code : ℕ) → code < length rs → getD (map shapeOf rs) code [] ≡ shapeOf (getD rs code noRow)
+row-at [] code h = absurd (omega arith)
+row-at (r ∷ rs) zero h = refl
+row-at (r ∷ rs) (suc code) h = row-at rs code (omega arith)
 
-passed : (code : ℕ) (ks : List ℕ) → Passed code ks → any (eqb code) ks ≡ false
-passed code [] p = refl
-passed code (k ∷ ks) p = rw (ne-eqb code k (p .1)) (passed code ks (p .0))
-
--- a table, from index i on, has zeros alone at other codes
-abbrev zeros : ℕ → List ℕ → List ℕ → Bool
-zeros i ks [] = true
-zeros i ks (n ∷ ns) = (any (eqb i) ks || eqb n 0) && zeros (suc i) ks ns
-
-zero-at : (ks ns : List ℕ) (i k code : ℕ) → code ≡ i + k → zeros i ks ns ≡ true → Passed code ks → 0 ≡ getD ns k 0
-zero-at ks [] i k code e z p = refl
-zero-at ks (n ∷ ns) i zero code e z p =
-    let f : i ≡ code = omega arith in
-    let a : any (eqb i) ks ≡ false = rw f (passed code ks p) in
-    let b = and-both (any (eqb i) ks || eqb n 0) (zeros (suc i) ks ns) z in
-    sym (eqb-true n 0 (rw a at (b .0)))
-zero-at ks (n ∷ ns) i (suc k) code e z p = zero-at ks ns (suc i) k code (omega arith) (and-both (any (eqb i) ks || eqb n 0) (zeros (suc i) ks ns) z .1) p
-
-pub last-arm : (ks ns : List ℕ) (code : ℕ) → zeros 0 ks ns ≡ true → Passed code ks → 0 ≡ getD ns code 0
-last-arm ks ns code z p = zero-at ks ns 0 code code (omega arith) z p
+-- the table of `src/` is that of the definitions
+pub row-is : (code : ℕ) → code ≤ length rows → getD (map shapeOf (noRow ∷ rows)) code [] ≡ shapeOf (rowOf code)
+row-is code h = row-at (noRow ∷ rows) code (omega arith)
 
 -- ---- all_bytes
 
@@ -62,11 +45,11 @@ module _ (ws : List ℕ) (i : ℕ) (e : all isByte ws ≡ all isByte (drop i ws)
 
 -- ---- good_part
 
-pub tree-part : (code : ℕ) (ws : List ℕ) → code ≡ 11 → true ≡ goodPart code ws
-tree-part code ws e = rw e
+pub tree-part : (trees later : ℕ) (ws : List ℕ) → later < trees → true ≡ goodPart trees later ws
+tree-part trees later ws h = rw (lt-ltb later trees h)
 
-pub text-part : (code : ℕ) (ws : List ℕ) (r : Bool) → (code ≡ 11 → ⊥) → r ≡ all isByte ws → r ≡ goodPart code ws
-text-part code ws r h e = rw (ne-eqb code 11 h) e
+pub text-part : (trees later : ℕ) (ws : List ℕ) (r : Bool) → trees ≤ later → r ≡ all isByte ws → r ≡ goodPart trees later ws
+text-part trees later ws r h e = rw (le-ltb later trees h) e
 
 -- ---- good_parts
 
@@ -75,7 +58,7 @@ some-map true f none = refl
 some-map true f (some x) = refl
 some-map false f o = refl
 
-module _ (code left at : ℕ) (ws : List ℕ) (whole : Bool) (e : whole ≡ isSome (readParts code left (drop at ws))) where
+module _ (trees left at : ℕ) (ws : List ℕ) (whole : Bool) (e : whole ≡ isSome (readParts trees left (drop at ws))) where
   none-left : left ≤ 0 → at ≤ length ws → (b : Bool) → eqb at (length ws) ≡ b → b ≡ whole
   unfolding readParts
   none-left l h true q =
@@ -99,18 +82,18 @@ module _ (code left at : ℕ) (ws : List ℕ) (whole : Bool) (e : whole ≡ isSo
         sym (e ∙ rw (k, drop-of-length-le ws f))
 
     module _ (h : at ≤ length ws) (n : at ≡ length ws → ⊥) where
-      part-at : whole ≡ (leb (getD ws at 0) (length ws - (at + 1)) && goodPart code (take (getD ws at 0) (drop (at + 1) ws))) && isSome (readParts code (left - 1) (drop (at + 1 + getD ws at 0) ws))
+      part-at : whole ≡ (leb (getD ws at 0) (length ws - (at + 1)) && goodPart trees (left - 1) (take (getD ws at 0) (drop (at + 1) ws))) && isSome (readParts trees (left - 1) (drop (at + 1 + getD ws at 0) ws))
       unfolding readParts
       part-at =
           let k : left ≡ suc (left - 1) = omega arith in
           let i : at < length ws = omega arith in
-          e ∙ ap (λ (j : ℕ). isSome (readParts code j (drop at ws))) k ∙ rw (drop-cons ws at 0 i, ← add-one at, some-map, length-drop, drop-drop)
+          e ∙ ap (λ (j : ℕ). isSome (readParts trees j (drop at ws))) k ∙ rw (drop-cons ws at 0 i, ← add-one at, some-map, length-drop, drop-drop)
 
       pub parts-over : length ws - (at + 1) < getD ws at 0 → false ≡ whole
       parts-over o = sym (part-at ∙ rw (lt-leb (getD ws at 0) (length ws - (at + 1)) o))
 
-      module _ (o : getD ws at 0 ≤ length ws - (at + 1)) (r : Bool) (g : r ≡ goodPart code (take (at + 1 + getD ws at 0 - (at + 1)) (drop (at + 1) ws))) where
-        good-at : whole ≡ r && isSome (readParts code (left - 1) (drop (at + 1 + getD ws at 0) ws))
+      module _ (o : getD ws at 0 ≤ length ws - (at + 1)) (r : Bool) (g : r ≡ goodPart trees (left - 1) (take (at + 1 + getD ws at 0 - (at + 1)) (drop (at + 1) ws))) where
+        good-at : whole ≡ r && isSome (readParts trees (left - 1) (drop (at + 1 + getD ws at 0) ws))
         good-at =
             let m : at + 1 + getD ws at 0 - (at + 1) ≡ getD ws at 0 = omega arith in
             part-at ∙ rw (le-leb (getD ws at 0) (length ws - (at + 1)) o, g, m)
@@ -118,27 +101,32 @@ module _ (code left at : ℕ) (ws : List ℕ) (whole : Bool) (e : whole ≡ isSo
         pub parts-bad : r ≡ false → false ≡ whole
         parts-bad b = sym (good-at ∙ rw b)
 
-        pub parts-next : r ≡ true → whole ≡ isSome (readParts code (left - 1) (drop (at + 1 + getD ws at 0) ws))
+        pub parts-next : r ≡ true → whole ≡ isSome (readParts trees (left - 1) (drop (at + 1 + getD ws at 0) ws))
         parts-next b = good-at ∙ rw b
 
 -- ---- good_call
 
 module _ (code : ℕ) (ws : List ℕ) where
-  call-at : isSome (readCall code ws) ≡ (leb 1 code && leb code 16 && leb (numbersIn code) (length ws)) && isSome (readParts code (partsIn code) (drop (numbersIn code) ws))
+  call-at : isSome (readCall code ws) ≡ (isCode code && leb (numbersIn code) (length ws)) && isSome (readParts (treesIn code) (partsIn code) (drop (numbersIn code) ws))
   call-at = rw (call-fold code ws, some-map)
 
   pub call-low : code < 1 → false ≡ isSome (readCall code ws)
   call-low l = sym (call-at ∙ rw (lt-leb 1 code l))
 
-  pub call-high : 16 < code → false ≡ isSome (readCall code ws)
-  call-high h = sym (call-at ∙ rw (lt-leb code 16 h, and-false))
+  pub call-high : length rows < code → false ≡ isSome (readCall code ws)
+  call-high h = sym (call-at ∙ rw (lt-leb code (length rows) h, and-false))
 
-  module _ (n : ℕ) (e : n ≡ numbersIn code) where
+  -- its row, as it is read
+  module _ (row : List ℕ) (q : row ≡ shapeOf (rowOf code)) (n : ℕ) (e : n ≡ getD row 0 0) where
     pub call-short : length ws < n → false ≡ isSome (readCall code ws)
-    call-short s = sym (call-at ∙ rw (← e, lt-leb n (length ws) s, and-false))
+    call-short s = let m : n ≡ numbersIn code = e ∙ rw q in sym (call-at ∙ rw (← m, lt-leb n (length ws) s, and-false))
 
-    pub call-rest : 1 ≤ code → code ≤ 16 → n ≤ length ws → (k : ℕ) → k ≡ partsIn code → (r : Bool) → r ≡ isSome (readParts code k (drop n ws)) → r ≡ isSome (readCall code ws)
-    call-rest l h s k f r g = g ∙ sym (call-at ∙ rw (le-leb 1 code l, le-leb code 16 h, ← e, le-leb n (length ws) s, ← f))
+    pub call-rest : 1 ≤ code → code ≤ length rows → n ≤ length ws → (t k : ℕ) → t ≡ getD row 2 0 → k ≡ getD row 1 0 → (r : Bool) → r ≡ isSome (readParts t (k + t) (drop n ws)) → r ≡ isSome (readCall code ws)
+    call-rest l h s t k f g r i =
+        let m : n ≡ numbersIn code = e ∙ rw q in
+        let u : t ≡ treesIn code = f ∙ rw q in
+        let v : k ≡ textsIn code = g ∙ rw q in
+        i ∙ sym (call-at ∙ rw (le-leb 1 code l, le-leb code (length rows) h, ← m, le-leb n (length ws) s, ← u, ← v))
 
 -- ---- count_calls
 

@@ -1,6 +1,7 @@
-// Worked cases 9 and 10 of document 01 as runs of the code.
+// Worked cases 9 and 10 of document 01 as runs of the code, and the third demand's counts on its store S.
 use additions::NewAtom;
 use machine::Edited;
+use machine::Found;
 use machine::Record;
 use structs::model;
 use structs::pdb;
@@ -75,6 +76,65 @@ fn case_10(store: &mut [u64]) {
     print_records(store, 9);
 }
 
+// How many atoms a run of find listed.
+fn print_count(found: Found) {
+    let f = answers::of_found(found);
+    print_line(f.hits);
+}
+
+// The edits that make store S: a model, atom `N` of element 7 and atom `XX` without one, each as its numbers and its texts.
+fn edits_of_s() -> [u64; 54] {
+    let model = [1, 1, 1];
+    let n = [2, 23, 0, 7, 0, 0, 1, 0, 0, 0, 0, 0, 7, 0, 0];
+    let n_texts = [1, 65, 0, 3, 65, 76, 65, 0, 1, 78];
+    let xx = [2, 24, 0, 7, 0, 0, 2, 0, 0, 0, 0, 0, 0, 0, 0];
+    let xx_texts = [1, 65, 0, 3, 65, 76, 65, 0, 2, 88, 88];
+    let mut list = [0u64; 54];
+    moves::write_over(&mut list, 0, &model);
+    moves::write_over(&mut list, 3, &n);
+    moves::write_over(&mut list, 18, &n_texts);
+    moves::write_over(&mut list, 28, &xx);
+    moves::write_over(&mut list, 43, &xx_texts);
+    list
+}
+
+// On store S, A is Element 7 and B is AtomName `N`; the counts of A, B, "A and B", "A or B" and "not A".
+fn demand_3() {
+    let list = edits_of_s();
+    let mut store = [0u64; 73];
+    let mut answers = [0u64; 9];
+    let a = [15, 7, 0];
+    let b = [14, 5620492334958379008, 0];
+    let mut first = [0u64; 10];
+    let mut second = [0u64; 10];
+    let mut both = [0u64; 10];
+    let mut either = [0u64; 10];
+    let mut opposite = [0u64; 10];
+    let r = claims::edit_and_find(
+        &mut store,
+        &list,
+        &mut answers,
+        &a,
+        &b,
+        &mut first,
+        &mut second,
+        &mut both,
+        &mut either,
+        &mut opposite,
+    );
+    let f = r.finds;
+    let in_first = f.first;
+    let in_second = f.second;
+    let in_both = f.both;
+    let in_either = f.either;
+    let in_opposite = f.opposite;
+    print_count(in_first);
+    print_count(in_second);
+    print_count(in_both);
+    print_count(in_either);
+    print_count(in_opposite);
+}
+
 fn main() {
     let mut enough = [0u64; 61];
     io::write_all(1, b"case 9, 61 words\n");
@@ -85,4 +145,6 @@ fn main() {
     let mut store = [0u64; 121];
     io::write_all(1, b"case 10\n");
     case_10(&mut store);
+    io::write_all(1, b"demand 3\n");
+    demand_3();
 }

@@ -6,6 +6,7 @@ ghost use lib.ListN.{length};
 ghost use Rattle.machine.specs.Program.{digits, decimal};
 ghost use Rattle.decimals.specs.Put.{put};
 
+// One byte.
 fn put_byte(text: &mut [u8], at: usize, b: u8) -> usize
     requires { ⌜ at + 1 ≤ length (now text) ⌝ }
     ensures { λ r. ⌜ (r, now (text .exit)) ≡ put (b ∷ []) at (now (text .entry)) ⌝ }
@@ -14,6 +15,7 @@ fn put_byte(text: &mut [u8], at: usize, b: u8) -> usize
     at + 1
 }
 
+// All bytes of b.
 pub fn put_bytes(text: &mut [u8], at: usize, b: &[u8]) -> usize
     requires { ⌜ at + length (now b) ≤ length (now text) ⌝ }
     ensures { λ r. ⌜ (r, now (text .exit)) ≡ put (now (b .entry)) at (now (text .entry)) ⌝ }

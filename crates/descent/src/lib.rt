@@ -12,6 +12,7 @@ ghost use Rattle.search.specs.Nodes.{checked, lowestFrom};
 ghost use Rattle.search.specs.declared.CheckedTree.the-variants.{Good};
 ghost use Rattle.descent.specs.Descent.{five, start as startAt, valueBy, Sure, Turned};
 
+// The numbers before any record was seen.
 pub fn start() -> RecordNumbers
     ensures { λ r. ⌜ r ≡ startAt ⌝ }
 {

@@ -13,8 +13,8 @@ use borrow.Author.Tests.{ltb-true}
 use Rattle.machine.specs.Lists.{all}
 use Rattle.laws.specs.Lists.{and-both}
 use Rattle.calls.specs.Counted.{isSome}
-use Rattle.calls.specs.Format.{numbersIn, partsIn, isByte, goodPart, readParts, callOf, readCall}
-use Rattle.calls.specs.Laws.{parts-step, parts-none, call-parts}
+use Rattle.calls.specs.Format.{rows, numbersIn, treesIn, partsIn, isByte, goodPart, readParts, callOf, readCall}
+use Rattle.calls.proofs.Reading.{parts-step, parts-none, call-parts}
 use Rattle.dispatch.specs.Step.{lowByte, Narrowed, partEnd}
 
 -- ---- words as bytes
@@ -53,17 +53,17 @@ abbrev pub textAt : List ℕ → ℕ → List ℕ
 textAt ws at = take (getD ws at 0) (drop (at + 1) ws)
 
 -- the part from a word to its end, and the parts after it
-pub record PartAt (code k : ℕ) (ws : List ℕ) (at e : ℕ) (ps : List (List ℕ)) : Type 0 where
+pub record PartAt (trees k : ℕ) (ws : List ℕ) (at e : ℕ) (ps : List (List ℕ)) : Type 0 where
   pub fits : e ≤ length ws
-  pub good : goodPart code (textAt ws at) ≡ true
+  pub good : goodPart trees k (textAt ws at) ≡ true
   pub later : List (List ℕ)
-  pub rest : readParts code k (drop e ws) ≡ some later
+  pub rest : readParts trees k (drop e ws) ≡ some later
   pub is : ps ≡ textAt ws at ∷ later
 
-pub part-at : (code k : ℕ) (ws : List ℕ) (at e : ℕ) (ps : List (List ℕ)) → at ≤ length ws → e ≡ partEnd ws at → readParts code (suc k) (drop at ws) ≡ some ps
-    → PartAt code k ws at e ps
-part-at code k ws at e ps h q r =
-    let p = parts-step code k (drop at ws) ps r in
+pub part-at : (trees k : ℕ) (ws : List ℕ) (at e : ℕ) (ps : List (List ℕ)) → at ≤ length ws → e ≡ partEnd ws at → readParts trees (suc k) (drop at ws) ≡ some ps
+    → PartAt trees k ws at e ps
+part-at trees k ws at e ps h q r =
+    let p = parts-step trees k (drop at ws) ps r in
     let n : getD (drop at ws) 0 0 ≡ getD ws at 0 = getD-drop at ws 0 0 ∙ ap (λ (i : ℕ). getD ws i 0) (add-zero at) in
     let one : drop 1 (drop at ws) ≡ drop (at + 1) ws = drop-drop 1 at ws in
     let sum : at + (1 + getD (drop at ws) 0 0) ≡ e = omega arith in
@@ -71,16 +71,16 @@ part-at code k ws at e ps h q r =
     let text : take (getD (drop at ws) 0 0) (drop 1 (drop at ws)) ≡ textAt ws at = rw (n, one) in
     record {
       fits = omega (arith, p .room, length-drop at ws);
-      good = ap (goodPart code) (sym text) ∙ p .good;
+      good = ap (goodPart trees k) (sym text) ∙ p .good;
       later = p .later;
-      rest = ap (readParts code k) (sym after) ∙ p .rest;
+      rest = ap (readParts trees k) (sym after) ∙ p .rest;
       is = p .is ∙ ap (λ (t : List ℕ). t ∷ p .later) text;
     }
 
 -- no part more: the words are at their end
-pub no-parts : (code : ℕ) (ws : List ℕ) (at : ℕ) (ps : List (List ℕ)) → at ≤ length ws → readParts code 0 (drop at ws) ≡ some ps → at ≡ length ws
-no-parts code ws at ps h e =
-    let p = parts-none code (drop at ws) ps e in
+pub no-parts : (trees : ℕ) (ws : List ℕ) (at : ℕ) (ps : List (List ℕ)) → at ≤ length ws → readParts trees 0 (drop at ws) ≡ some ps → at ≡ length ws
+no-parts trees ws at ps h e =
+    let p = parts-none trees (drop at ws) ps e in
     let l : length (drop at ws) ≡ 0 = rw (p .words) in
     omega (arith, length-drop at ws)
 
@@ -116,10 +116,10 @@ spelled-all n ws h = sym (take-all n ws (omega arith)) ∙ spelled 0 n ws (omega
 
 pub record Read (code : ℕ) (ws : List ℕ) : Type 0 where
   pub low : 1 ≤ code
-  pub high : code ≤ 16
+  pub high : code ≤ length rows
   pub room : numbersIn code ≤ length ws
   pub parts : List (List ℕ)
-  pub reads : readParts code (partsIn code) (drop (numbersIn code) ws) ≡ some parts
+  pub reads : readParts (treesIn code) (partsIn code) (drop (numbersIn code) ws) ≡ some parts
   pub is : readCall code ws ≡ some (callOf (spell 0 (numbersIn code) ws) parts code)
 
 pub some-of : {A : Type 0} (o : Option A) → isSome o ≡ true → (x : A) × (o ≡ some x)

@@ -10,13 +10,12 @@ use lib.ListN.{length, getD, take, drop, length-append, length-take, length-drop
 use lib.Seq.{drop-drop, drop-length, getD-drop}
 use borrow.Author.Tests.{le-leb, lt-leb}
 use Rattle.machine.specs.Lists.{bind}
-use Rattle.machine.specs.Answer.{Result, ok, refused, editedNumbers}
+use Rattle.machine.specs.Answer.{Result, ok, refused, editedNumbers, editFields}
 use Rattle.machine.specs.Store.{Machine, readStore}
 use Rattle.machine.specs.Edit.{Call, Change, relaid, machineStep, stepRead, storeStep, storeAfter, storeAnswers}
 use Rattle.machine.specs.declared.Edited.{Edited}
 use Rattle.machine.specs.declared.Refusal.{Refusal}
-use Rattle.answers.specs.Fields.{editFields}
-use Rattle.answers.specs.declared.Edit.{Edit}
+use Rattle.machine.specs.declared.EditAnswer.{EditAnswer}
 use Rattle.moves.specs.Over.{over}
 use Rattle.moves.proofs.Laws.{over-none, over-over, over-length}
 use Rattle.seek.specs.Seek.{Good}
@@ -27,7 +26,7 @@ use Rattle.store.proofs.Steps.{step-good}
 use Rattle.calls.specs.Counted.{isSome, countedOf}
 use Rattle.calls.specs.declared.Counted as Counted
 use Rattle.calls.specs.Format.{readCall, readCalls}
-use Rattle.calls.specs.Laws.{calls-none, calls-step}
+use Rattle.calls.proofs.Reading.{calls-none, calls-step}
 use Rattle.dispatch.specs.Step.{stepOf}
 use Rattle.dispatch.proofs.Texts.{some-of}
 use Rattle.edits.specs.Apply.{appliedNumbers, Run, ran, answered, applied, runCalls, applyRun, callsOf}
@@ -35,7 +34,7 @@ use Rattle.edits.specs.declared.Applied as Applied
 
 -- ---- the answers
 
-pub answer-put : (out out₀ : List ℕ) (at : ℕ) (e : Edit) (d : Edited) → editFields e ≡ editedNumbers d → out ≡ over at (editFields e) out₀ → out ≡ over at (editedNumbers d) out₀
+pub answer-put : (out out₀ : List ℕ) (at : ℕ) (e : EditAnswer) (d : Edited) → editFields e ≡ editedNumbers d → out ≡ over at (editFields e) out₀ → out ≡ over at (editedNumbers d) out₀
 answer-put out out₀ at e d q r = r ∙ ap (λ (l : List ℕ). over at l out₀) q
 
 step-three : (w : List ℕ) (c : Call) → length (storeStep w c .0) ≡ 3

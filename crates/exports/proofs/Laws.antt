@@ -6,7 +6,7 @@ use Rattle.machine.specs.Answer.{refusalNumber}
 use Rattle.machine.specs.declared.Refusal.{Refusal}
 use Rattle.edits.specs.Apply.{Run, appliedNumbers, ran}
 use Rattle.edits.specs.declared.Applied as Applied
-use Rattle.exports.specs.Numbers.{applyFields}
+use Rattle.exports.specs.Fields.{applyFields}
 
 pub as-fields : (fields numbers words : List ℕ) (run : List ℕ × List ℕ) → fields ≡ numbers → (numbers, words) ≡ run → (fields, words) ≡ run
 as-fields fields numbers words run e h = rw e h

@@ -2,6 +2,7 @@
 // are given by their bits.
 ghost use mathlib.Core.Path.{_≡_};
 ghost use mathlib.Core.List.{[], _∷_};
+ghost use Rattle.machine.specs.Answer.{resultNumber, editFields, findFields, lookupFields};
 ghost use Rattle.machine.specs.Text.{optionalOf};
 ghost use Rattle.machine.specs.Store.{readStore, openRun};
 ghost use Rattle.machine.specs.Find.{findRun};
@@ -9,15 +10,14 @@ ghost use Rattle.machine.specs.Edit as Calls;
 ghost use Rattle.machine.specs.Edit.{storeStep};
 ghost use Rattle.machine.specs.Lookup.{lookupRun};
 ghost use Rattle.additions.specs.Add.{given};
-ghost use Rattle.answers.specs.Fields.{editFields, findFields, lookupFields};
 ghost use Rattle.copies.specs.Copy.{copyRun};
 ghost use Rattle.edits.specs.Apply.{appliedNumbers, ran, applyRun};
-ghost use Rattle.exports.specs.Numbers.{resultNumber, applyFields};
+ghost use Rattle.exports.specs.Fields.{applyFields};
 use additions::NewAtom;
-use answers::Edit;
-use answers::Find;
-use answers::Lookup;
 use edits::Applied;
+use machine::EditAnswer;
+use machine::FindAnswer;
+use machine::LookupAnswer;
 use store::Checked;
 
 // 0 for a good store, else the refusal's number.
@@ -49,7 +49,7 @@ pub extern "C" fn jubrelti_copy(from: &[u64], to: &mut [u64]) -> u64
 }
 
 #[no_mangle]
-pub extern "C" fn jubrelti_find(store: &[u64], tree: &[u64], out: &mut [u64]) -> Find
+pub extern "C" fn jubrelti_find(store: &[u64], tree: &[u64], out: &mut [u64]) -> FindAnswer
     ensures { λ r. ⌜ (findFields r, now (out .exit)) ≡ findRun (now (store .entry)) (now (tree .entry)) (now (out .entry)) ⌝ }
 {
     let found = structs::pdb::find(store, tree, out);
@@ -62,7 +62,7 @@ pub extern "C" fn jubrelti_binary_find_atom(
     serial: u64,
     flag: u64,
     location: &[u8],
-) -> Lookup
+) -> LookupAnswer
     ensures { λ r. ⌜ lookupFields r ≡ lookupRun (now (store .entry)) serial (optionalOf flag (now (location .entry))) ⌝ }
 {
     let looked_up = structs::pdb::binary_find_atom(store, serial, flag, location);
@@ -84,7 +84,7 @@ pub extern "C" fn jubrelti_add_atom(
     location: &[u8],
     name: &[u8],
     values: NewAtom,
-) -> Edit
+) -> EditAnswer
     ensures { λ r. ⌜ (editFields r, now (store .exit)) ≡ storeStep (now (store .entry)) (Calls.AddAtom model (given (now (chain .entry)) residue (optionalOf «code_flag» (now (code .entry))) (now (conformer .entry)) (optionalOf «location_flag» (now (location .entry))) (now (name .entry)) values)) ⌝ }
 {
     let edited = structs::model::add_atom(
@@ -104,7 +104,7 @@ pub extern "C" fn jubrelti_add_atom(
 }
 
 #[no_mangle]
-pub extern "C" fn jubrelti_add_model(store: &mut [u64], serial: u64) -> Edit
+pub extern "C" fn jubrelti_add_model(store: &mut [u64], serial: u64) -> EditAnswer
     ensures { λ r. ⌜ (editFields r, now (store .exit)) ≡ storeStep (now (store .entry)) (Calls.AddModel serial) ⌝ }
 {
     let edited = structs::pdb::add_model(store, serial);
@@ -112,7 +112,7 @@ pub extern "C" fn jubrelti_add_model(store: &mut [u64], serial: u64) -> Edit
 }
 
 #[no_mangle]
-pub extern "C" fn jubrelti_remove_chain(store: &mut [u64], model: u64, chain: u64) -> Edit
+pub extern "C" fn jubrelti_remove_chain(store: &mut [u64], model: u64, chain: u64) -> EditAnswer
     ensures { λ r. ⌜ (editFields r, now (store .exit)) ≡ storeStep (now (store .entry)) (Calls.RemoveChain model chain) ⌝ }
 {
     let edited = structs::model::remove_chain(store, model, chain);
@@ -125,7 +125,7 @@ pub extern "C" fn jubrelti_remove_residue(
     model: u64,
     chain: u64,
     residue: u64,
-) -> Edit
+) -> EditAnswer
     ensures { λ r. ⌜ (editFields r, now (store .exit)) ≡ storeStep (now (store .entry)) (Calls.RemoveResidue model chain residue) ⌝ }
 {
     let edited = structs::chain::remove_residue(store, model, chain, residue);
@@ -139,7 +139,7 @@ pub extern "C" fn jubrelti_remove_conformer(
     chain: u64,
     residue: u64,
     conformer: u64,
-) -> Edit
+) -> EditAnswer
     ensures { λ r. ⌜ (editFields r, now (store .exit)) ≡ storeStep (now (store .entry)) (Calls.RemoveConformer model chain residue conformer) ⌝ }
 {
     let edited = structs::residue::remove_conformer(store, model, chain, residue, conformer);
@@ -154,7 +154,7 @@ pub extern "C" fn jubrelti_remove_atom(
     residue: u64,
     conformer: u64,
     atom: u64,
-) -> Edit
+) -> EditAnswer
     ensures { λ r. ⌜ (editFields r, now (store .exit)) ≡ storeStep (now (store .entry)) (Calls.RemoveAtom model chain residue conformer atom) ⌝ }
 {
     let edited = structs::conformer::remove_atom(store, model, chain, residue, conformer, atom);
@@ -162,7 +162,11 @@ pub extern "C" fn jubrelti_remove_atom(
 }
 
 #[no_mangle]
-pub extern "C" fn jubrelti_remove_chain_by_id(store: &mut [u64], model: u64, id: &[u8]) -> Edit
+pub extern "C" fn jubrelti_remove_chain_by_id(
+    store: &mut [u64],
+    model: u64,
+    id: &[u8],
+) -> EditAnswer
     ensures { λ r. ⌜ (editFields r, now (store .exit)) ≡ storeStep (now (store .entry)) (Calls.RemoveChainById model (now (id .entry))) ⌝ }
 {
     let edited = structs::model::remove_chain_by_id(store, model, id);
@@ -177,7 +181,7 @@ pub extern "C" fn jubrelti_remove_residue_by_id(
     serial: u64,
     flag: u64,
     code: &[u8],
-) -> Edit
+) -> EditAnswer
     ensures { λ r. ⌜ (editFields r, now (store .exit)) ≡ storeStep (now (store .entry)) (Calls.RemoveResidueById model chain serial (optionalOf flag (now (code .entry)))) ⌝ }
 {
     let edited = structs::chain::remove_residue_by_id(store, model, chain, serial, flag, code);
@@ -193,7 +197,7 @@ pub extern "C" fn jubrelti_remove_conformer_by_id(
     name: &[u8],
     flag: u64,
     location: &[u8],
-) -> Edit
+) -> EditAnswer
     ensures { λ r. ⌜ (editFields r, now (store .exit)) ≡ storeStep (now (store .entry)) (Calls.RemoveConformerById model chain residue (now (name .entry)) (optionalOf flag (now (location .entry)))) ⌝ }
 {
     let edited = structs::residue::remove_conformer_by_id(
@@ -216,7 +220,7 @@ pub extern "C" fn jubrelti_remove_atom_by_serial_number(
     residue: u64,
     conformer: u64,
     serial: u64,
-) -> Edit
+) -> EditAnswer
     ensures { λ r. ⌜ (editFields r, now (store .exit)) ≡ storeStep (now (store .entry)) (Calls.RemoveAtomBySerialNumber model chain residue conformer serial) ⌝ }
 {
     let edited = structs::conformer::remove_atom_by_serial_number(
@@ -231,7 +235,7 @@ pub extern "C" fn jubrelti_remove_atom_by_serial_number(
 }
 
 #[no_mangle]
-pub extern "C" fn jubrelti_remove_empty(store: &mut [u64], model: u64) -> Edit
+pub extern "C" fn jubrelti_remove_empty(store: &mut [u64], model: u64) -> EditAnswer
     ensures { λ r. ⌜ (editFields r, now (store .exit)) ≡ storeStep (now (store .entry)) (Calls.RemoveEmpty model) ⌝ }
 {
     let edited = structs::model::remove_empty(store, model);
@@ -239,7 +243,7 @@ pub extern "C" fn jubrelti_remove_empty(store: &mut [u64], model: u64) -> Edit
 }
 
 #[no_mangle]
-pub extern "C" fn jubrelti_join_models(store: &mut [u64], first: u64, second: u64) -> Edit
+pub extern "C" fn jubrelti_join_models(store: &mut [u64], first: u64, second: u64) -> EditAnswer
     ensures { λ r. ⌜ (editFields r, now (store .exit)) ≡ storeStep (now (store .entry)) (Calls.JoinModels first second) ⌝ }
 {
     let edited = structs::model::join(store, first, second);
@@ -253,7 +257,7 @@ pub extern "C" fn jubrelti_join_chains(
     chain: u64,
     second_model: u64,
     second_chain: u64,
-) -> Edit
+) -> EditAnswer
     ensures { λ r. ⌜ (editFields r, now (store .exit)) ≡ storeStep (now (store .entry)) (Calls.JoinChains model chain «second_model» «second_chain») ⌝ }
 {
     let edited = structs::chain::join(store, model, chain, second_model, second_chain);
@@ -269,7 +273,7 @@ pub extern "C" fn jubrelti_join_residues(
     second_model: u64,
     second_chain: u64,
     second_residue: u64,
-) -> Edit
+) -> EditAnswer
     ensures { λ r. ⌜ (editFields r, now (store .exit)) ≡ storeStep (now (store .entry)) (Calls.JoinResidues model chain residue «second_model» «second_chain» «second_residue») ⌝ }
 {
     let edited = structs::residue::join(
@@ -295,7 +299,7 @@ pub extern "C" fn jubrelti_join_conformers(
     second_chain: u64,
     second_residue: u64,
     second_conformer: u64,
-) -> Edit
+) -> EditAnswer
     ensures { λ r. ⌜ (editFields r, now (store .exit)) ≡ storeStep (now (store .entry)) (Calls.JoinConformers model chain residue conformer «second_model» «second_chain» «second_residue» «second_conformer») ⌝ }
 {
     let edited = structs::conformer::join(
@@ -313,7 +317,11 @@ pub extern "C" fn jubrelti_join_conformers(
 }
 
 #[no_mangle]
-pub extern "C" fn jubrelti_remove_atoms_by(store: &mut [u64], model: u64, tree: &[u64]) -> Edit
+pub extern "C" fn jubrelti_remove_atoms_by(
+    store: &mut [u64],
+    model: u64,
+    tree: &[u64],
+) -> EditAnswer
     ensures { λ r. ⌜ (editFields r, now (store .exit)) ≡ storeStep (now (store .entry)) (Calls.RemoveAtomsBy model (now (tree .entry))) ⌝ }
 {
     let edited = structs::model::remove_atoms_by(store, model, tree);
@@ -323,32 +331,32 @@ pub extern "C" fn jubrelti_remove_atoms_by(store: &mut [u64], model: u64, tree: 
 // ---- a list of edits
 
 #[repr(C)]
-pub struct Apply {
+pub struct ApplyAnswer {
     pub result: u64,
     pub calls: u64,
 }
 
 // "0 with its fields", or the number of what was refused.
-fn of_applied(applied: Applied) -> Apply
+fn of_applied(applied: Applied) -> ApplyAnswer
     ensures { λ r. ⌜ applyFields r ≡ appliedNumbers applied ⌝ }
 {
     match applied {
-        Applied::Done(calls) => Apply {
+        Applied::Done(calls) => ApplyAnswer {
             result: 0,
             calls: calls,
         },
         Applied::Refused(refusal) => {
             let n = answers::refusal_number(refusal);
-            Apply {
+            ApplyAnswer {
                 result: n,
                 calls: 0,
             }
         }
-        Applied::BadList => Apply {
+        Applied::BadList => ApplyAnswer {
             result: 22,
             calls: 0,
         },
-        Applied::ShortAnswers => Apply {
+        Applied::ShortAnswers => ApplyAnswer {
             result: 23,
             calls: 0,
         },
@@ -356,7 +364,7 @@ fn of_applied(applied: Applied) -> Apply
 }
 
 #[no_mangle]
-pub extern "C" fn jubrelti_apply(store: &mut [u64], list: &[u64], out: &mut [u64]) -> Apply
+pub extern "C" fn jubrelti_apply(store: &mut [u64], list: &[u64], out: &mut [u64]) -> ApplyAnswer
     ensures { λ r. ⌜ ran (applyFields r) (now (store .exit)) (now (out .exit)) ≡ applyRun (now (store .entry)) (now (list .entry)) (now (out .entry)) ⌝ }
 {
     let applied = edits::apply(store, list, out);

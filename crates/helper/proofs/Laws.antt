@@ -1,21 +1,20 @@
 -- Laws of texts, one for each place of the code. Assumes nothing.
 use Prim.Native.Nat.{ℕ, zero, suc, _+_, _-_, _*_, _^_, _≤_, _<_}
 use mathlib.Core.Path.{_≡_, refl, sym, ap, _∙_}
-use mathlib.Core.Bool.{Bool, true, false, cond, not, _&&_, false≢true, and-false}
+use mathlib.Core.Bool.{Bool, true, false, cond, not, _&&_, false≢true}
 use mathlib.Core.List.{List, [], _∷_, _++_, reverse, map, reverse-append, reverse-reverse}
 use native.Mathlib.Numerals.{add-one}
 use native.Mathlib.Omega.{arith}
 use lib.ListN.{length, take, drop, getD, length-drop, drop-of-length-le, List·getD-eq-default, List·getD-map, length-map}
 use lib.Seq.{drop-cons, take-suc, take-length, length-take-le}
-use lib.Dec.{eqb, ltb}
-use borrow.Author.Tests.{eq-eqb, ne-eqb, le-leb, lt-leb, lt-ltb, le-ltb}
+use lib.Dec.{ltb}
+use borrow.Author.Tests.{le-leb, lt-leb, lt-ltb}
 use Rattle.machine.specs.Lists.{all, isEmpty}
-use Rattle.machine.specs.Text.{packed, pack, unpacked, beforeZeros, withoutZeros, textOf, plain, blank, raise, trimStart, trim, fit, chainId, raised, atomName, byFlag, matches, matchesOptional}
+use Rattle.machine.specs.Text.{packed, pack, plain, blank, raise, trimStart, trim, fit, chainId, raised, atomName, byFlag}
 use Rattle.machine.specs.declared.Prepared.{Prepared}
 use Rattle.machine.specs.declared.Prepared.the-variants.{Stored, Absent, Bad}
-use Rattle.laws.specs.Packing.{packed-none, length-textOf, Bytes, text-packed}
-use Rattle.laws.specs.Text.{matches-kept, matches-none}
-use Rattle.helper.specs.Tidy.{trimEnd, inCase}
+use Rattle.laws.specs.Packing.{packed-none}
+use Rattle.helper.specs.Text.{trimEnd, upperIf}
 
 -- ---- trimming
 
@@ -26,7 +25,7 @@ trimStart-cons : (b : ℕ) (bs : List ℕ) (a : Bool) → a ≡ blank b → trim
 unfolding trimStart
 trimStart-cons b bs a e = rw e
 
--- `ink_start`: the blanks before i are trimmed
+-- `trim_start`: the blanks before i are trimmed
 pub record Started (t : List ℕ) (i : ℕ) : Type 0 where
   pub within : i ≤ length t
   pub same : trimStart t ≡ trimStart (drop i t)
@@ -40,8 +39,8 @@ start-again t i a s h p q = record {
   same = s .same ∙ ap trimStart (next t i h) ∙ trimStart-cons (getD t i 0) (drop (i + 1) t) a p ∙ rw q;
 }
 
-pub start-ink : (t : List ℕ) (i : ℕ) (a : Bool) → Started t i → i < length t → a ≡ blank (getD t i 0) → a ≡ false → trimStart t ≡ drop i t
-start-ink t i a s h p q = s .same ∙ ap trimStart (next t i h) ∙ trimStart-cons (getD t i 0) (drop (i + 1) t) a p ∙ rw q (sym (next t i h))
+pub start-found : (t : List ℕ) (i : ℕ) (a : Bool) → Started t i → i < length t → a ≡ blank (getD t i 0) → a ≡ false → trimStart t ≡ drop i t
+start-found t i a s h p q = s .same ∙ ap trimStart (next t i h) ∙ trimStart-cons (getD t i 0) (drop (i + 1) t) a p ∙ rw q (sym (next t i h))
 
 pub start-none : (t : List ℕ) (i : ℕ) → Started t i → length t ≤ i → trimStart t ≡ drop i t
 unfolding trimStart
@@ -55,7 +54,7 @@ trimEnd-snoc bs b a e = rw (reverse-append bs (b ∷ []), trimStart-cons b (reve
     go true = refl
     go false = rw (← reverse-append bs (b ∷ []), reverse-reverse)
 
--- `ink_end`: the blanks from i on are trimmed
+-- `trim_end`: the blanks from i on are trimmed
 pub record Ended (t : List ℕ) (i : ℕ) : Type 0 where
   pub within : i ≤ length t
   pub same : trimEnd t ≡ trimEnd (take i t)
@@ -72,8 +71,8 @@ end-again t i a s h p q = record {
   same = s .same ∙ ap trimEnd (last t i h (s .within)) ∙ trimEnd-snoc (take (i - 1) t) (getD t (i - 1) 0) a p ∙ rw q;
 }
 
-pub end-ink : (t : List ℕ) (i : ℕ) (a : Bool) → Ended t i → 0 < i → a ≡ blank (getD t (i - 1) 0) → a ≡ false → trimEnd t ≡ take i t
-end-ink t i a s h p q =
+pub end-found : (t : List ℕ) (i : ℕ) (a : Bool) → Ended t i → 0 < i → a ≡ blank (getD t (i - 1) 0) → a ≡ false → trimEnd t ≡ take i t
+end-found t i a s h p q =
     s .same ∙ ap trimEnd (last t i h (s .within)) ∙ trimEnd-snoc (take (i - 1) t) (getD t (i - 1) 0) a p ∙ rw q (sym (last t i h (s .within)))
 
 pub end-none : (t : List ℕ) (i : ℕ) → Ended t i → i ≤ 0 → trimEnd t ≡ take i t
@@ -118,10 +117,10 @@ valid-not t i a s h p q = sym (s .same ∙ all-next t i a h p ∙ rw q)
 pub valid-done : (t : List ℕ) (i : ℕ) → Valid t i → length t ≤ i → true ≡ all plain t
 valid-done t i s h = sym (s .same ∙ rw (drop-of-length-le t {i = i} h))
 
--- `cased`
-pub kept : (up : Bool) (b : ℕ) → not up ≡ true → b ≡ cond up (raise b) b
-kept true b h = absurd (false≢true h)
-kept false b h = refl
+-- `upper_if`
+pub raise-not : (up : Bool) (b : ℕ) → not up ≡ true → b ≡ cond up (raise b) b
+raise-not true b h = absurd (false≢true h)
+raise-not false b h = refl
 
 module _ (up : Bool) (b : ℕ) (u : not up ≡ false) where
   raises : cond up (raise b) b ≡ raise b
@@ -141,15 +140,15 @@ module _ (up : Bool) (b : ℕ) (u : not up ≡ false) where
   raise-mid k h = rw (raises, le-leb 97 b k, le-leb b 122 h)
 
 -- `digit`
-getD-case : (up : Bool) (t : List ℕ) (i : ℕ) → getD (inCase up t) i 0 ≡ cond up (raise (getD t i 0)) (getD t i 0)
-getD-case true t i = List·getD-map raise t i 0
-getD-case false t i = refl
+getD-upperIf : (up : Bool) (t : List ℕ) (i : ℕ) → getD (upperIf up t) i 0 ≡ cond up (raise (getD t i 0)) (getD t i 0)
+getD-upperIf true t i = List·getD-map raise t i 0
+getD-upperIf false t i = refl
 
-pub digit-in : (up : Bool) (t : List ℕ) (i r : ℕ) → r ≡ cond up (raise (getD t i 0)) (getD t i 0) → r ≡ getD (inCase up t) i 0
-digit-in up t i r p = p ∙ sym (getD-case up t i)
+pub digit-in : (up : Bool) (t : List ℕ) (i r : ℕ) → r ≡ cond up (raise (getD t i 0)) (getD t i 0) → r ≡ getD (upperIf up t) i 0
+digit-in up t i r p = p ∙ sym (getD-upperIf up t i)
 
-pub digit-out : (up : Bool) (t : List ℕ) (i : ℕ) → length t ≤ i → 0 ≡ getD (inCase up t) i 0
-digit-out up t i h = sym (getD-case up t i ∙ rw (List·getD-eq-default t 0 {n = i} h) (go up))
+pub digit-out : (up : Bool) (t : List ℕ) (i : ℕ) → length t ≤ i → 0 ≡ getD (upperIf up t) i 0
+digit-out up t i h = sym (getD-upperIf up t i ∙ rw (List·getD-eq-default t 0 {n = i} h) (go up))
   where
     go : (up : Bool) → cond up (raise 0) 0 ≡ 0
     go true = refl
@@ -184,18 +183,18 @@ pack-eight t d₀ d₁ d₂ d₃ d₄ d₅ d₆ d₇ h₀ h₁ h₂ h₃ h₄ h�
 
 -- ---- made ready for the store
 
-length-case : (up : Bool) (t : List ℕ) → length (inCase up t) ≡ length t
-length-case true t = length-map t raise
-length-case false t = refl
+length-upperIf : (up : Bool) (t : List ℕ) → length (upperIf up t) ≡ length t
+length-upperIf true t = length-map t raise
+length-upperIf false t = refl
 
 module _ (up : Bool) (t : List ℕ) where
-  pub fit-good : (w : ℕ) → length t ≤ 8 → w ≡ pack (inCase up t) → Stored w ≡ fit (inCase up t)
-  fit-good w h p = rw (length-case up t, le-leb (length t) 8 h, p)
+  pub fit-good : (w : ℕ) → length t ≤ 8 → w ≡ pack (upperIf up t) → Stored w ≡ fit (upperIf up t)
+  fit-good w h p = rw (length-upperIf up t, le-leb (length t) 8 h, p)
 
-  pub fit-long : 8 < length t → Bad ≡ fit (inCase up t)
-  fit-long h = rw (length-case up t, lt-leb (length t) 8 h)
+  pub fit-long : 8 < length t → Bad ≡ fit (upperIf up t)
+  fit-long h = rw (length-upperIf up t, lt-leb (length t) 8 h)
 
-any-byte : (t : List ℕ) → not (isEmpty t) ≡ ltb 0 (length t)
+pub any-byte : (t : List ℕ) → not (isEmpty t) ≡ ltb 0 (length t)
 any-byte [] = refl
 any-byte (b ∷ bs) = sym (lt-ltb 0 (suc (length bs)) (omega arith))
 
@@ -240,71 +239,3 @@ pub flag-bad : (flag : ℕ) (p : Prepared) → 1 < flag → Bad ≡ byFlag flag 
 flag-bad zero p h = absurd (omega arith)
 flag-bad (suc zero) p h = absurd (omega arith)
 flag-bad (suc (suc n)) p h = refl
-
--- ---- texts as given
-
--- a text that ends in no zero byte
-closed : List ℕ → Bool
-closed [] = true
-closed (b ∷ []) = not (eqb b 0)
-closed (b ∷ c ∷ cs) = closed (c ∷ cs)
-
-closed-last : (t : List ℕ) → 1 ≤ length t → closed t ≡ not (eqb (getD t (length t - 1) 0) 0)
-unfolding closed
-closed-last [] h = absurd (omega arith)
-closed-last (b ∷ []) h = refl
-closed-last (b ∷ c ∷ cs) h =
-    let e : length (b ∷ c ∷ cs) - 1 ≡ suc (length (c ∷ cs) - 1) = omega arith in
-    rw e (closed-last (c ∷ cs) (omega arith))
-
-closed-before : (b : ℕ) (t : List ℕ) → closed t ≡ true → closed (beforeZeros b t) ≡ true
-unfolding closed
-closed-before b [] h = go (eqb b 0) refl
-  where
-    go : (z : Bool) → eqb b 0 ≡ z → closed (cond (z && true) [] (b ∷ [])) ≡ true
-    go true e = refl
-    go false e = rw e
-closed-before b (c ∷ cs) h = rw (and-false (eqb b 0)) h
-
-closed-withoutZeros : (t : List ℕ) → closed (withoutZeros t) ≡ true
-unfolding withoutZeros closed
-closed-withoutZeros [] = refl
-closed-withoutZeros (b ∷ bs) = closed-before b (withoutZeros bs) (closed-withoutZeros bs)
-
-withoutZeros-closed : (t : List ℕ) → closed t ≡ true → withoutZeros t ≡ t
-unfolding withoutZeros closed
-withoutZeros-closed [] h = refl
-withoutZeros-closed (b ∷ []) h = go (eqb b 0) h
-  where
-    go : (z : Bool) → not z ≡ true → cond (z && true) [] (b ∷ []) ≡ b ∷ []
-    go true e = absurd (false≢true e)
-    go false e = refl
-withoutZeros-closed (b ∷ c ∷ cs) h = rw (withoutZeros-closed (c ∷ cs) h, and-false (eqb b 0))
-
-module _ (t : List ℕ) (w : ℕ) where
-  pub match-none : length t < 1 → false ≡ matches t w
-  unfolding matches
-  match-none h = rw (any-byte t, le-ltb 0 (length t) (omega arith))
-
-  pub match-long : 8 < length t → false ≡ matches t w
-  match-long h = sym (matches-none t w (λ e. omega (arith, length-textOf w, ap length e)))
-
-  pub match-zero : 1 ≤ length t → getD t (length t - 1) 0 ≡ 0 → false ≡ matches t w
-  unfolding textOf
-  match-zero h z =
-      let k : closed t ≡ false = closed-last t h ∙ rw (eq-eqb (getD t (length t - 1) 0) 0 z) in
-      sym (matches-none t w (λ e. false≢true (sym k ∙ ap closed e ∙ closed-withoutZeros (unpacked 8 w))))
-
-  pub match-word : (p : ℕ) → Bytes t → 1 ≤ length t → length t ≤ 8 → (getD t (length t - 1) 0 ≡ 0 → ⊥) → p ≡ pack t → eqb p w ≡ matches t w
-  unfolding textOf
-  match-word p b h l z e =
-      let k : closed t ≡ true = closed-last t h ∙ rw (ne-eqb (getD t (length t - 1) 0) 0 z) in
-      let o : textOf (pack t) ≡ t = text-packed 8 t l b ∙ withoutZeros-closed t k in
-      rw e (sym (matches-kept t w o (any-byte t ∙ lt-ltb 0 (length t) h)))
-
-  module _ (flag : ℕ) where
-    pub optional-absent : flag ≡ 0 → eqb w 0 ≡ matchesOptional (record { flag = flag; text = t }) w
-    optional-absent h = rw (eq-eqb flag 0 h)
-
-    pub optional-given : (r : Bool) → (flag ≡ 0 → ⊥) → r ≡ matches t w → r ≡ matchesOptional (record { flag = flag; text = t }) w
-    optional-given r h e = rw (ne-eqb flag 0 h) e

@@ -89,7 +89,7 @@ fn is_wanted(
         return serial == store[word + Record::SERIAL];
     }
     if level == 1 {
-        if helper::same_optional(flag, location, store[word + Record::LOCATION]) {
+        if stored::same_optional(flag, location, store[word + Record::LOCATION]) {
             if spans_serial(store, at + 1, stop, serial) {
                 return has_serial(store, at + 1, stop, serial);
             }

@@ -10,6 +10,9 @@ use Rattle.machine.specs.declared.Opened as Opened
 use Rattle.machine.specs.declared.Edited as Edited
 use Rattle.machine.specs.declared.Found as Found
 use Rattle.machine.specs.declared.LookedUp as LookedUp
+use Rattle.machine.specs.declared.EditAnswer.{EditAnswer}
+use Rattle.machine.specs.declared.FindAnswer.{FindAnswer}
+use Rattle.machine.specs.declared.LookupAnswer.{LookupAnswer}
 
 -- "Refusal numbers by their cause"
 abbrev pub refusalNumber : Refusal → ℕ
@@ -52,10 +55,25 @@ lookedUpNumbers (LookedUp.the-variants.At h) = 0 ∷ 1 ∷ h .model ∷ h .chain
 lookedUpNumbers LookedUp.the-variants.NotFound = 0 ∷ 0 ∷ 0 ∷ 0 ∷ 0 ∷ 0 ∷ 0 ∷ []
 lookedUpNumbers (LookedUp.the-variants.Refused r) = refusalNumber r ∷ 0 ∷ 0 ∷ 0 ∷ 0 ∷ 0 ∷ 0 ∷ []
 
+-- an answer's fields, in the order of its numbers
+abbrev pub editFields : EditAnswer → List ℕ
+editFields e = e .result ∷ e .found ∷ e .removed ∷ []
+
+abbrev pub findFields : FindAnswer → List ℕ
+findFields f = f .result ∷ f .hits ∷ []
+
+abbrev pub lookupFields : LookupAnswer → List ℕ
+lookupFields l = l .result ∷ l .found ∷ l .model ∷ l .chain ∷ l .residue ∷ l .conformer ∷ l .atom ∷ []
+
 -- a value, or the refusal of the first check that fails
 pub data Result (A : Type 0) : Type 0 where
   ok : A → Result A
   refused : Refusal → Result A
+
+-- the number of a result without fields
+abbrev pub resultNumber : {A : Type 0} → Result A → ℕ
+resultNumber (ok x) = 0
+resultNumber (refused r) = refusalNumber r
 
 infixl 10 _>>=_ _>>_
 abbrev pub _>>=_ : {A B : Type 0} → Result A → (A → Result B) → Result B

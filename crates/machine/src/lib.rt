@@ -176,3 +176,29 @@ pub enum LookedUp {
     NotFound,
     Refused(Refusal),
 }
+
+// ---- answers as their fields: "A result is 0 with its fields, or one of these."
+
+#[repr(C)]
+pub struct EditAnswer {
+    pub result: u64,
+    pub found: u64,
+    pub removed: u64,
+}
+
+#[repr(C)]
+pub struct FindAnswer {
+    pub result: u64,
+    pub hits: u64,
+}
+
+#[repr(C)]
+pub struct LookupAnswer {
+    pub result: u64,
+    pub found: u64,
+    pub model: u64,
+    pub chain: u64,
+    pub residue: u64,
+    pub conformer: u64,
+    pub atom: u64,
+}

@@ -26,7 +26,7 @@ fn is_marked(store: &[u64], at: usize, kind: u64, word: u64, flag: u64, text: &[
     if store[at * Record::WIDTH + Record::FIRST] != word {
         return false;
     }
-    helper::same_optional(flag, text, store[at * Record::WIDTH + Record::SECOND])
+    stored::same_optional(flag, text, store[at * Record::WIDTH + Record::SECOND])
 }
 
 // The number of a record.

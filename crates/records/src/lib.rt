@@ -42,7 +42,7 @@ pub fn good_atom(r: &[u64]) -> bool
     requires { ⌜ length (now r) ≡ 12 ⌝ }
     ensures { λ b. ⌜ b ≡ goodRecord 0 (now (r .entry)) ⌝ }
 {
-    let named = helper::stored_atom_name(r[Record::ATOM_NAME]);
+    let named = stored::stored_atom_name(r[Record::ATOM_NAME]);
     (r[Record::KIND] == Record::ATOM)
         & (r[11] == 0)
         & named
@@ -59,14 +59,14 @@ pub fn good_record(r: &[u64]) -> bool
     match r[Record::KIND] {
         Record::CONFORMER => {
             unnamed_zero(r)
-                & helper::stored_name(r[Record::CONFORMER_NAME])
-                & helper::stored_location(r[Record::LOCATION])
+                & stored::stored_name(r[Record::CONFORMER_NAME])
+                & stored::stored_location(r[Record::LOCATION])
         }
-        Record::RESIDUE => unnamed_zero(r) & helper::stored_code(r[Record::CODE]),
+        Record::RESIDUE => unnamed_zero(r) & stored::stored_code(r[Record::CODE]),
         Record::CHAIN => {
             (r[Record::SECOND] == 0)
                 & unnamed_zero(r)
-                & helper::stored_chain_id(r[Record::CHAIN_ID])
+                & stored::stored_chain_id(r[Record::CHAIN_ID])
         }
         Record::MODEL => (r[Record::SECOND] == 0) & unnamed_zero(r),
         _ => false,

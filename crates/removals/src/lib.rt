@@ -54,17 +54,17 @@ fn is_named(
     ensures { λ r. ⌜ r ≡ named kind (idOf serial (now (name .entry)) flag (now (other .entry))) one two ⌝ }
 {
     if kind == Record::CHAIN {
-        return helper::same_text(name, one);
+        return stored::same_text(name, one);
     }
     if kind == Record::CONFORMER {
-        if helper::same_text(name, one) {
-            return helper::same_optional(flag, other, two);
+        if stored::same_text(name, one) {
+            return stored::same_optional(flag, other, two);
         }
         return false;
     }
     if one == serial {
         if kind == Record::RESIDUE {
-            return helper::same_optional(flag, other, two);
+            return stored::same_optional(flag, other, two);
         }
         return true;
     }

@@ -97,9 +97,9 @@ fn good_parameters(code: u64, p: u64, q: u64) -> bool
     match code {
         1 | 5 | 12 | 16 | 18 => q == 0,
         2 | 6 | 13 | 17 | 19 => true,
-        3 | 7 | 9 | 10 | 14 => helper::packed_text(p) & (q == 0),
-        4 | 11 => helper::packed_text(p) & helper::packed_text(q),
-        8 => helper::packed_text(q),
+        3 | 7 | 9 | 10 | 14 => stored::packed_text(p) & (q == 0),
+        4 | 11 => stored::packed_text(p) & stored::packed_text(q),
+        8 => stored::packed_text(q),
         15 => {
             let found = Element::from_number(p);
             match found {

@@ -5,8 +5,8 @@ use borrow.Author.Needs.{needs}
 use Rattle.additions.proofs.ready.Statement.{statement}
 use Rattle.additions.proofs.ready.Tie as tie
 
-prepare-identifier-requires : tie.Need-prepare-identifier-requires
-prepare-identifier-requires c κs = search needs
+prepare-chain-id-requires : tie.Need-prepare-chain-id-requires
+prepare-chain-id-requires c κs = search needs
 
 word-of-requires : tie.Need-word-of-requires
 word-of-requires c κs = search needs
@@ -21,7 +21,7 @@ returns : tie.Need-returns
 returns c =
     let s1 = c .before .before in
     bad-chain _
-    (declined ChainId _ _ _ (s1 .before .prepare-identifier .ensures) (s1 .word-of .ensures) (c .enum-told .given .1))
+    (declined ChainId _ _ _ (s1 .before .prepare-chain-id .ensures) (s1 .word-of .ensures) (c .enum-told .given .1))
 
 prepare-optional-code-requires : tie.Need-prepare-optional-code-requires
 prepare-optional-code-requires c κs = search needs
@@ -40,7 +40,7 @@ returns-2 c =
     let s2 = c .before .before in
     let s1 = s2 .before .before .before .before .before in
     bad-code _ _
-    (accepted ChainId _ _ _ _ (s1 .before .prepare-identifier .ensures) (s1 .word-of .ensures) (s2 .before .before .before .chain-word .given .1))
+    (accepted ChainId _ _ _ _ (s1 .before .prepare-chain-id .ensures) (s1 .word-of .ensures) (s2 .before .before .before .chain-word .given .1))
     (declined InsertionCode _ _ _ (s2 .before .prepare-optional-code .ensures) (s2 .word-of2 .ensures) (c .enum-told2 .given .1))
 
 prepare-identifier-uppercase-requires : tie.Need-prepare-identifier-uppercase-requires
@@ -61,7 +61,7 @@ returns-3 c =
     let s2 = s3 .before .before .before .before .before in
     let s1 = s2 .before .before .before .before .before in
     bad-conformer _ _
-    (accepted ChainId _ _ _ _ (s1 .before .prepare-identifier .ensures) (s1 .word-of .ensures) (s2 .before .before .before .chain-word .given .1)) _
+    (accepted ChainId _ _ _ _ (s1 .before .prepare-chain-id .ensures) (s1 .word-of .ensures) (s2 .before .before .before .chain-word .given .1)) _
     (accepted InsertionCode _ _ _ _ (s2 .before .prepare-optional-code .ensures) (s2 .word-of2 .ensures) (s3 .before .before .before .code-word .given .1))
     (declined ConformerName _ _ _ (s3 .before .prepare-identifier-uppercase .ensures) (s3 .word-of3 .ensures) (c .enum-told3 .given .1))
 
@@ -84,7 +84,7 @@ returns-4 c =
     let s2 = s3 .before .before .before .before .before in
     let s1 = s2 .before .before .before .before .before in
     bad-location _ _
-    (accepted ChainId _ _ _ _ (s1 .before .prepare-identifier .ensures) (s1 .word-of .ensures) (s2 .before .before .before .chain-word .given .1)) _
+    (accepted ChainId _ _ _ _ (s1 .before .prepare-chain-id .ensures) (s1 .word-of .ensures) (s2 .before .before .before .chain-word .given .1)) _
     (accepted InsertionCode _ _ _ _ (s2 .before .prepare-optional-code .ensures) (s2 .word-of2 .ensures) (s3 .before .before .before .code-word .given .1)) _
     (accepted ConformerName _ _ _ _ (s3 .before .prepare-identifier-uppercase .ensures) (s3 .word-of3 .ensures) (s4 .before .before .before .conformer-word .given .1))
     (declined AlternativeLocation _ _ _ (s4 .before .prepare-optional-location .ensures) (s4 .word-of4 .ensures) (c .enum-told4 .given .1))
@@ -109,7 +109,7 @@ returns-5 c =
     let s2 = s3 .before .before .before .before .before in
     let s1 = s2 .before .before .before .before .before in
     bad-name _ _
-    (accepted ChainId _ _ _ _ (s1 .before .prepare-identifier .ensures) (s1 .word-of .ensures) (s2 .before .before .before .chain-word .given .1)) _
+    (accepted ChainId _ _ _ _ (s1 .before .prepare-chain-id .ensures) (s1 .word-of .ensures) (s2 .before .before .before .chain-word .given .1)) _
     (accepted InsertionCode _ _ _ _ (s2 .before .prepare-optional-code .ensures) (s2 .word-of2 .ensures) (s3 .before .before .before .code-word .given .1)) _
     (accepted ConformerName _ _ _ _ (s3 .before .prepare-identifier-uppercase .ensures) (s3 .word-of3 .ensures) (s4 .before .before .before .conformer-word .given .1)) _
     (accepted AlternativeLocation _ _ _ _ (s4 .before .prepare-optional-location .ensures) (s4 .word-of4 .ensures) (s5 .before .before .before .location-word .given .1))
@@ -123,7 +123,7 @@ returns-6 c =
     let s2 = s3 .before .before .before .before .before in
     let s1 = s2 .before .before .before .before .before in
     all-ready _ _
-    (accepted ChainId _ _ _ _ (s1 .before .prepare-identifier .ensures) (s1 .word-of .ensures) (s2 .before .before .before .chain-word .given .1)) _
+    (accepted ChainId _ _ _ _ (s1 .before .prepare-chain-id .ensures) (s1 .word-of .ensures) (s2 .before .before .before .chain-word .given .1)) _
     (accepted InsertionCode _ _ _ _ (s2 .before .prepare-optional-code .ensures) (s2 .word-of2 .ensures) (s3 .before .before .before .code-word .given .1)) _
     (accepted ConformerName _ _ _ _ (s3 .before .prepare-identifier-uppercase .ensures) (s3 .word-of3 .ensures) (s4 .before .before .before .conformer-word .given .1)) _
     (accepted AlternativeLocation _ _ _ _ (s4 .before .prepare-optional-location .ensures) (s4 .word-of4 .ensures) (s5 .before .before .before .location-word .given .1)) _
@@ -133,7 +133,7 @@ pub ready-spec : {M : Type 1} → statement M
 ready-spec =
     tie.close
     (tie.spec
-    prepare-identifier-requires
+    prepare-chain-id-requires
     word-of-requires
     enum-known-chain-word
     enum-told

@@ -9,7 +9,7 @@ use Rattle.machine.specs.declared.Refusal.{Refusal}
 use Rattle.store.specs.Store.{checkedBy}
 use Rattle.store.specs.declared.Checked.{Checked}
 use Rattle.store.specs.declared.Checked.the-variants.{Good, Refused}
-use Rattle.exports.specs.Numbers.{resultNumber}
+use Rattle.machine.specs.Answer.{resultNumber}
 use Rattle.exports.proofs.jubrelti_check.Statement.{statement}
 use Rattle.exports.proofs.jubrelti_check.Tie as tie
 

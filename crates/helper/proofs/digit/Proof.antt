@@ -4,11 +4,11 @@ use borrow.Author.Needs.{needs}
 use Rattle.helper.proofs.digit.Statement.{statement}
 use Rattle.helper.proofs.digit.Tie as tie
 
-shared-slice-read-cased : tie.Need-shared-slice-read-cased
-shared-slice-read-cased c = search needs
+shared-slice-read-upper-if : tie.Need-shared-slice-read-upper-if
+shared-slice-read-upper-if c = search needs
 
-cased-requires : tie.Need-cased-requires
-cased-requires c κs = search needs
+upper-if-requires : tie.Need-upper-if-requires
+upper-if-requires c κs = search needs
 
 returns : tie.Need-returns
 returns c = search (needs, digit-in)
@@ -17,4 +17,4 @@ returns-2 : tie.Need-returns-2
 returns-2 c = search (needs, digit-out)
 
 pub digit-spec : {M : Type 1} → statement M
-digit-spec = tie.close (tie.spec shared-slice-read-cased cased-requires returns returns-2)
+digit-spec = tie.close (tie.spec shared-slice-read-upper-if upper-if-requires returns returns-2)

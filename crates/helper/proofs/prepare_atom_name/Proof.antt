@@ -10,8 +10,8 @@ trimmed-requires c κs = search needs
 valid-text-requires : tie.Need-valid-text-requires
 valid-text-requires c κs = search needs
 
-fitted-requires : tie.Need-fitted-requires
-fitted-requires c κs = search needs
+packed-or-bad-requires : tie.Need-packed-or-bad-requires
+packed-or-bad-requires c κs = search needs
 
 returns : tie.Need-returns
 returns c = search (needs, atom-good)
@@ -21,4 +21,4 @@ returns-2 c = search (needs, atom-bad)
 
 pub prepare-atom-name-spec : {M : Type 1} → statement M
 prepare-atom-name-spec =
-    tie.close (tie.spec trimmed-requires valid-text-requires fitted-requires returns returns-2)
+    tie.close (tie.spec trimmed-requires valid-text-requires packed-or-bad-requires returns returns-2)

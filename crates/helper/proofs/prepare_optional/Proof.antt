@@ -10,11 +10,11 @@ returns c = search (needs, flag-absent)
 returns-2 : tie.Need-returns-2
 returns-2 c = search (needs, flag-bad)
 
-prepare-raised-requires : tie.Need-prepare-raised-requires
-prepare-raised-requires c κs = search needs
+prepare-uppercase-or-requires : tie.Need-prepare-uppercase-or-requires
+prepare-uppercase-or-requires c κs = search needs
 
 returns-3 : tie.Need-returns-3
 returns-3 c = search (needs, flag-given)
 
 pub prepare-optional-spec : {M : Type 1} → statement M
-prepare-optional-spec = tie.close (tie.spec returns returns-2 prepare-raised-requires returns-3)
+prepare-optional-spec = tie.close (tie.spec returns returns-2 prepare-uppercase-or-requires returns-3)

@@ -4,8 +4,8 @@ use borrow.Author.Needs.{needs}
 use Rattle.helper.proofs.trimmed.Statement.{statement}
 use Rattle.helper.proofs.trimmed.Tie as tie
 
-ink-start-requires : tie.Need-ink-start-requires
-ink-start-requires c κs = search needs
+trim-start-requires : tie.Need-trim-start-requires
+trim-start-requires c κs = search needs
 
 sub-rest : tie.Need-sub-rest
 sub-rest c = search needs
@@ -16,8 +16,8 @@ part-rest-start c = search needs
 part-rest-end : tie.Need-part-rest-end
 part-rest-end c = search needs
 
-ink-end-requires : tie.Need-ink-end-requires
-ink-end-requires c κs = search needs
+trim-end-requires : tie.Need-trim-end-requires
+trim-end-requires c κs = search needs
 
 slice-aggregate-result : tie.Need-slice-aggregate-result
 slice-aggregate-result c = search (needs, part-length)
@@ -29,10 +29,10 @@ pub trimmed-spec : {M : Type 1} → statement M
 trimmed-spec =
     tie.close
     (tie.spec
-    ink-start-requires
+    trim-start-requires
     sub-rest
     part-rest-start
     part-rest-end
-    ink-end-requires
+    trim-end-requires
     slice-aggregate-result
     returns)
