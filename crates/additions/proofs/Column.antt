@@ -19,7 +19,7 @@ use Rattle.laws.specs.Grouped.{flats-kinds, chunks-length}
 use Rattle.laws.specs.Scan.{ends-branches}
 use Rattle.laws.specs.Places.{Around, Spot}
 use Rattle.seek.specs.Seek.{between, run}
-use Rattle.seek.specs.Below.{chunks-take, run-over}
+use Rattle.seek.proofs.Below.{chunks-take, run-over}
 use Rattle.places.specs.Pick.{Key, marks, pickSpan, keysOf, spotIn}
 use Rattle.places.specs.Place.{column}
 use Rattle.places.proofs.Picks.{chosen, pick-over, unmarked}

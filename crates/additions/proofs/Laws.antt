@@ -28,8 +28,8 @@ use Rattle.moves.specs.Over.{over, gapped}
 use Rattle.moves.proofs.Laws.{over-at}
 use Rattle.moves.proofs.Records.{Twelve, twelve-take, twelve-drop, blank, blank-twelve, insert-laid, write-laid, drop-records}
 use Rattle.seek.specs.Seek.{held, Good, Within, between, isAtom, atomRecords, span, spanOf}
-use Rattle.seek.specs.Below.{between-cons}
-use Rattle.seek.specs.Laws.{records-count, atoms-stored, at-span, Stands, stands, missing, stands-within, stands-records}
+use Rattle.seek.proofs.Below.{between-cons}
+use Rattle.seek.proofs.Laws.{records-count, atoms-stored, at-span, Stands, stands, missing, stands-within, stands-records}
 use Rattle.seek.specs.declared.Span as Span
 use Rattle.places.specs.Place.{Known, Lands, column, Grown, Moves}
 use Rattle.places.specs.Pick.{keysOf, spotIn, foundOf}

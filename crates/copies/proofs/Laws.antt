@@ -17,7 +17,7 @@ use Rattle.moves.specs.Over.{over}
 use Rattle.moves.proofs.Laws.{over-length, over-snoc}
 use Rattle.seek.specs.Seek.{held, Good}
 use Rattle.store.specs.Store.{checkedBy}
-use Rattle.store.specs.Laws.{refused-store}
+use Rattle.store.proofs.Laws.{refused-store}
 use Rattle.store.specs.declared.Checked as Checked
 use Rattle.copies.specs.Copy.{room, written, copyRun}
 

@@ -20,9 +20,9 @@ use Rattle.moves.specs.Over.{over}
 use Rattle.moves.proofs.Laws.{over-none, over-over, over-length}
 use Rattle.seek.specs.Seek.{Good}
 use Rattle.store.specs.Store.{checkedBy}
-use Rattle.store.specs.Laws.{refused-store}
+use Rattle.store.proofs.Laws.{refused-store}
 use Rattle.store.specs.declared.Checked as Checked
-use Rattle.store.specs.Steps.{step-good}
+use Rattle.store.proofs.Steps.{step-good}
 use Rattle.calls.specs.Counted.{isSome, countedOf}
 use Rattle.calls.specs.declared.Counted as Counted
 use Rattle.calls.specs.Format.{readCall, readCalls}

@@ -12,7 +12,7 @@ use mir.Facts.{toZ-ofZ}
 use borrow.Author.Tests.{lt-ltb, le-ltb}
 use Rattle.machine.specs.Record.{fieldsOf, readOut}
 use Rattle.machine.specs.declared.AtomRec.{AtomRec}
-use Rattle.seek.specs.Below.{record-word}
+use Rattle.seek.proofs.Below.{record-word}
 use Rattle.hierarchy.specs.Hit.{recordOf, isKind, numbersAt, areKinds, namedBy, nthOf, modelOf, chainOf, residueOf, conformerOf, atomOf}
 use Rattle.machine.specs.declared.RecordNumbers.{RecordNumbers}
 use Rattle.hierarchy.specs.declared.Named.{Named}

@@ -97,10 +97,10 @@ pub fn atom_at(store: &[u64], number: u64) -> AtomRec
     let count = store.len() / Record::WIDTH;
     let n = number as usize;
     if n < count {
-        return store::read_atom(store, n);
+        return records::read_atom(store, n);
     }
     let none = [0u64; Record::WIDTH];
-    store::read_atom(&none, 0)
+    records::read_atom(&none, 0)
 }
 
 fn is_kind(store: &[u64], number: u64, kind: u64) -> bool

@@ -17,7 +17,7 @@ use Rattle.laws.specs.Lists.{sum-append, bind-append, same-true, same-refl}
 use Rattle.laws.specs.Places.{Spot, replace-sum, atom-splits, flat-splits, branchAt-other}
 use Rattle.laws.specs.Places as places
 use Rattle.seek.specs.Seek.{spanAt, spanOn, span, spanOf}
-use Rattle.seek.specs.Laws.{at-span, Stands, stands, missing, Stood, span-some, spot-length, span-inj}
+use Rattle.seek.proofs.Laws.{at-span, Stands, stands, missing, Stood, span-some, spot-length, span-inj}
 use Rattle.seek.specs.declared.Span as Span
 use Rattle.joins.specs.Join.{joinOn, cutTurned}
 use Rattle.joins.proofs.Shift.{Apart, later, earlier, apart}

@@ -17,7 +17,7 @@ use Rattle.laws.specs.Lists.{and-then}
 use Rattle.laws.specs.Places.{replace-sum, flat-splits}
 use Rattle.laws.specs.Places as places
 use Rattle.seek.specs.Seek.{spanAt}
-use Rattle.seek.specs.Laws.{Stands, stands, spot-length}
+use Rattle.seek.proofs.Laws.{Stands, stands, spot-length}
 
 impossible : {A B : Type 0} {x : B} → _≡_ {A = Option B} none (some x) → A
 impossible e = let z : _≡_ {A = ℕ} 0 1 = cc in absurd (omega arith)

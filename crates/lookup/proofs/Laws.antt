@@ -19,8 +19,8 @@ use Rattle.machine.specs.declared.Refusal.the-variants.{BadIdentifier}
 use Rattle.machine.specs.declared.RecordNumbers.{RecordNumbers}
 use Rattle.laws.specs.Grouped.{group-flats}
 use Rattle.seek.specs.Seek.{Good, Within, held, between, run, spanOf}
-use Rattle.seek.specs.Below.{under, flat-root}
-use Rattle.seek.specs.Laws.{whole-within, whole-records}
+use Rattle.seek.proofs.Below.{under, flat-root}
+use Rattle.seek.proofs.Laws.{whole-within, whole-records}
 use Rattle.seek.specs.declared.Span as Span
 use Rattle.lookup.specs.Level.{wanted, answer, firstWanted, Level, spanWanted}
 use Rattle.lookup.proofs.Scan.{next, part, none-left}

@@ -17,7 +17,7 @@ use Rattle.machine.specs.Edit.{root}
 use Rattle.machine.specs.Lookup.{numbered, serials}
 use Rattle.laws.specs.Grouped.{words-kind, chunks-length}
 use Rattle.seek.specs.Seek.{Within, recordAt, between, run, atChild, toEnd, spanAt, spanOf}
-use Rattle.seek.specs.Below.{chunks-take, between-cons, between-nil, child-here, child-span, under, flat-root}
+use Rattle.seek.proofs.Below.{chunks-take, between-cons, between-nil, child-here, child-span, under, flat-root}
 use Rattle.seek.specs.declared.Span as Span
 use Rattle.lookup.specs.Level.{wanted, firstWanted, Level, spanWanted, atomSerials, wantedRecords}
 use Rattle.lookup.proofs.Serials.{atoms-append}

@@ -15,7 +15,7 @@ use Rattle.machine.specs.Store.{chunks}
 use Rattle.machine.specs.Lookup.{spans}
 use Rattle.laws.specs.Grouped.{chunks-length}
 use Rattle.seek.specs.Seek.{Within, recordAt, between}
-use Rattle.seek.specs.Below.{chunks-snoc, record-word, record-kind, between-cons, between-nil}
+use Rattle.seek.proofs.Below.{chunks-snoc, record-word, record-kind, between-cons, between-nil}
 use Rattle.lookup.specs.Level.{atomSerials, wantedRecords}
 
 pub atoms-append : (rs ss : List Words) → atomSerials (rs ++ ss) ≡ atomSerials rs ++ atomSerials ss

@@ -18,7 +18,7 @@ use Rattle.laws.specs.Lists.{All, All-map, All-append, All-left, All-right, and
 use Rattle.laws.specs.Grouped.{chunks-length}
 use Rattle.laws.specs.Layout.{read-parts}
 use Rattle.seek.specs.Seek.{held, Good, Within, recordAt, between, run, child, childSpan, span, spanOf}
-use Rattle.seek.specs.Below.{chunks-take}
+use Rattle.seek.proofs.Below.{chunks-take}
 use Rattle.seek.specs.declared.Span as Span
 use Rattle.places.specs.Pick.{keyOf, marks, pickSpan}
 use Rattle.places.specs.Place.{rank, chainKey, Ranked, Kept, Known, Lands, column, Grown, Moves}

@@ -17,8 +17,8 @@ use Rattle.machine.specs.Store.{chunks}
 use Rattle.machine.specs.Edit.{Which, first, last, pick}
 use Rattle.laws.specs.Grouped.{chunks-length}
 use Rattle.seek.specs.Seek.{Within, recordAt, between, run, toEnd, spanOf}
-use Rattle.seek.specs.Below.{record-word, record-kind, between-cons, between-nil}
-use Rattle.seek.specs.Laws.{at-span}
+use Rattle.seek.proofs.Below.{record-word, record-kind, between-cons, between-nil}
+use Rattle.seek.proofs.Laws.{at-span}
 use Rattle.seek.specs.declared.Span as Span
 use Rattle.places.specs.Pick.{Key, whichOf, keyOf, marks, pickStart, pickSpan, childOf, spotIn}
 use Rattle.places.specs.Place.{chainKey, Lands}

@@ -17,7 +17,7 @@ use Rattle.laws.specs.Lists.{All}
 use Rattle.laws.specs.Grouped.{chunks-length}
 use Rattle.laws.specs.Layout.{records-read, read-parts}
 use Rattle.seek.specs.Seek.{held, Good, Within, recordAt, between, run, child, childSpan, toEnd, span}
-use Rattle.seek.specs.Below.{between-cons, run-over, end-within, child-below, child-span}
+use Rattle.seek.proofs.Below.{between-cons, run-over, end-within, child-below, child-span}
 use Rattle.places.specs.Pick.{Key, marks, pickSpan}
 use Rattle.places.proofs.Picks.{pick-over, pick-within}
 

@@ -1,5 +1,5 @@
--- What the contracts of `src/` cite: a text written into lent bytes, and the parts of the program's text. Assumes nothing.
-use Prim.Native.Nat.{ℕ, _+_, _≤_}
+-- What the contracts of `src/` cite: the parts of the program's text. Assumes nothing.
+use Prim.Native.Nat.{ℕ, _≤_}
 use mathlib.Core.Path.{_≡_}
 use mathlib.Core.List.{List, _++_}
 use lib.ListN.{length, take}
@@ -8,11 +8,6 @@ use Rattle.machine.specs.Answer.{Result, _>>=_}
 use Rattle.machine.specs.Find.{hitsOf}
 use Rattle.machine.specs.Program.{Input, decimal, newline, spaced, printed}
 use Rattle.machine.specs.Demand.{fives}
-use Rattle.moves.specs.Over.{over}
-
--- b written over s from index `at` on: the index where it ends, and s afterwards
-abbrev pub put : List ℕ → ℕ → List ℕ → ℕ × List ℕ
-put b at s = (at + length b, over at b s)
 
 -- n counts elements at the start of s; the second part follows from the first, and both are what lending `&s[..n]` asks
 abbrev pub Counts : ℕ → List ℕ → Type 0

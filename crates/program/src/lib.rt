@@ -3,15 +3,16 @@ use machine::Found;
 use machine::Refusal;
 ghost use mathlib.Core.Path.{_≡_};
 ghost use mathlib.Core.Bool.{_&&_};
-ghost use mathlib.Core.List.{[], _∷_, _++_};
+ghost use mathlib.Core.List.{_++_};
 ghost use Prim.Native.Nat.{_+_, _*_, _%_, _≤_, _<_};
 ghost use lib.ListN.{length};
 ghost use lib.Dec.{leb, eqb};
 ghost use Rattle.machine.specs.Answer.{refused};
 ghost use Rattle.machine.specs.Find.{hitsOf};
-ghost use Rattle.machine.specs.Program.{littleEndian, wordsIn, split, digits, decimal, printed, programRun};
+ghost use Rattle.machine.specs.Program.{littleEndian, wordsIn, split, printed, programRun};
 ghost use Rattle.moves.specs.Over.{over};
-ghost use Rattle.program.specs.Text.{put, Counts, line, lines, lastLine, answered};
+ghost use Rattle.decimals.specs.Put.{put};
+ghost use Rattle.program.specs.Text.{Counts, line, lines, lastLine, answered};
 
 // The longest text: 682 hits, each of five numbers that have at most 20 digits, and the line of their count.
 pub const TEXT: usize = 71637;
@@ -55,60 +56,16 @@ fn readable(bytes: usize) -> bool
 
 // ---- what is written
 
-fn put_byte(text: &mut [u8], at: usize, b: u8) -> usize
-    requires { ⌜ at + 1 ≤ length (now text) ⌝ }
-    ensures { λ r. ⌜ (r, now (text .exit)) ≡ put (b ∷ []) at (now (text .entry)) ⌝ }
-{
-    text[at] = b;
-    at + 1
-}
-
-fn put_bytes(text: &mut [u8], at: usize, b: &[u8]) -> usize
-    requires { ⌜ at + length (now b) ≤ length (now text) ⌝ }
-    ensures { λ r. ⌜ (r, now (text .exit)) ≡ put (now (b .entry)) at (now (text .entry)) ⌝ }
-{
-    let mut written: usize = 0;
-    while written < b.len() {
-        text[at + written] = b[written];
-        written += 1;
-    }
-    at + written
-}
-
-// A number's decimal digits, at most `places` of them.
-fn put_digits(text: &mut [u8], at: usize, n: u64, places: usize) -> usize
-    requires { ⌜ at + places ≤ length (now text) ⌝ }
-    ensures { λ r. ⌜ (r, now (text .exit)) ≡ put (digits places n) at (now (text .entry)) ⌝ }
-{
-    if places == 0 {
-        return at;
-    }
-    if n < 10 {
-        return put_byte(text, at, 48 + n as u8);
-    }
-    let next = put_digits(text, at, n / 10, places - 1);
-    put_byte(text, next, 48 + (n % 10) as u8)
-}
-
-// A number, and the byte after it.
-fn put_number(text: &mut [u8], at: usize, n: u64, after: u8) -> usize
-    requires { ⌜ at + 21 ≤ length (now text) ⌝ }
-    ensures { λ r. ⌜ (r, now (text .exit)) ≡ put (decimal n ++ (after ∷ [])) at (now (text .entry)) ⌝ }
-{
-    let next = put_digits(text, at, n, 20);
-    put_byte(text, next, after)
-}
-
 // "each hit as five decimals"
 fn put_hit(text: &mut [u8], at: usize, hit: &[u64]) -> usize
     requires { ⌜ (length (now hit) ≡ 5) × (at + 105 ≤ length (now text)) ⌝ }
     ensures { λ r. ⌜ (r, now (text .exit)) ≡ put (line (now (hit .entry))) at (now (text .entry)) ⌝ }
 {
-    let chain = put_number(text, at, hit[0], b' ');
-    let residue = put_number(text, chain, hit[1], b' ');
-    let conformer = put_number(text, residue, hit[2], b' ');
-    let atom = put_number(text, conformer, hit[3], b' ');
-    put_number(text, atom, hit[4], b'\n')
+    let chain = decimals::put_number(text, at, hit[0], b' ');
+    let residue = decimals::put_number(text, chain, hit[1], b' ');
+    let conformer = decimals::put_number(text, residue, hit[2], b' ');
+    let atom = decimals::put_number(text, conformer, hit[3], b' ');
+    decimals::put_number(text, atom, hit[4], b'\n')
 }
 
 // The first n hits.
@@ -132,8 +89,8 @@ fn put_found(text: &mut [u8], hits: &[u64], n: usize) -> usize
     ensures { λ r. ⌜ (r, now (text .exit)) ≡ put (lines n (now (hits .entry)) ++ lastLine n) 0 (now (text .entry)) ⌝ }
 {
     let end = put_hits(text, hits, n);
-    let at = put_bytes(text, end, b"found ");
-    put_number(text, at, n as u64, b'\n')
+    let at = decimals::put_bytes(text, end, b"found ");
+    decimals::put_number(text, at, n as u64, b'\n')
 }
 
 // "A refusal prints `refused` and its number."
@@ -141,8 +98,8 @@ fn put_refused(text: &mut [u8], r: Refusal) -> usize
     requires { ⌜ 29 ≤ length (now text) ⌝ }
     ensures { λ n. ⌜ (n, now (text .exit)) ≡ put (printed (refused r)) 0 (now (text .entry)) ⌝ }
 {
-    let at = put_bytes(text, 0, b"refused ");
-    put_number(text, at, answers::refusal_number(r), b'\n')
+    let at = decimals::put_bytes(text, 0, b"refused ");
+    decimals::put_number(text, at, answers::refusal_number(r), b'\n')
 }
 
 // ---- the whole

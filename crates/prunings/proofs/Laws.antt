@@ -21,8 +21,8 @@ use Rattle.moves.specs.Over.{over, part, removed}
 use Rattle.moves.proofs.Laws.{over-none, over-length, over-under, take-over, part-below}
 use Rattle.moves.proofs.Records.{Twelve, remove-laid}
 use Rattle.seek.specs.Seek.{held, Good, Within, recordAt, between, span, spanOf}
-use Rattle.seek.specs.Below.{record-kind, between-cons, between-nil}
-use Rattle.seek.specs.Laws.{Stands, found, missing}
+use Rattle.seek.proofs.Below.{record-kind, between-cons, between-nil}
+use Rattle.seek.proofs.Laws.{Stands, found, missing}
 use Rattle.seek.specs.declared.Span as Span
 use Rattle.prunings.specs.Prune.{Laid, instead, stays, full, Gathered}
 use Rattle.prunings.specs.Laws.{full-chains, nonEmpty-atoms}

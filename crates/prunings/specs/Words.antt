@@ -19,8 +19,8 @@ use Rattle.moves.specs.Over.{over}
 use Rattle.moves.proofs.Laws.{over-none, over-over, over-length, drop-over}
 use Rattle.moves.proofs.Records.{Twelve, twelve-drop, twelve-over, concat-append, write-laid}
 use Rattle.seek.specs.Seek.{held, Good, Within, recordAt, between}
-use Rattle.seek.specs.Below.{chunks-snoc, between-nil}
-use Rattle.seek.specs.Laws.{Stands, spot-length, stands-within, stands-records}
+use Rattle.seek.proofs.Below.{chunks-snoc, between-nil}
+use Rattle.seek.proofs.Laws.{Stands, spot-length, stands-within, stands-records}
 use Rattle.prunings.specs.Prune.{Laid, instead, Compacted, kept}
 use Rattle.prunings.specs.Laws.{those-length, kept-atoms, kept-count}
 

@@ -17,8 +17,8 @@ use Rattle.laws.specs.Layout.{layOut-read, read-parts, read-length, length-part
 use Rattle.moves.specs.Over.{removed}
 use Rattle.moves.proofs.Records.{Twelve, remove-laid}
 use Rattle.seek.specs.Seek.{Good, held, between, atomRecords}
-use Rattle.seek.specs.Below.{chunks-take}
-use Rattle.seek.specs.Laws.{Stands, records-count, whole-records, atoms-stored}
+use Rattle.seek.proofs.Below.{chunks-take}
+use Rattle.seek.proofs.Laws.{Stands, records-count, whole-records, atoms-stored}
 use Rattle.removals.specs.Removal.{Removable, withoutRecords}
 
 -- what stands before and after the records from number p up to q, which the second list has not

@@ -16,8 +16,8 @@ use Rattle.laws.specs.Lists.{All, bind-append}
 use Rattle.laws.specs.Scan.{ends-branches}
 use Rattle.laws.specs.Places.{Around}
 use Rattle.seek.specs.Seek.{run}
-use Rattle.seek.specs.Below.{under, flat-root, under-kinds, run-over}
-use Rattle.seek.specs.Laws.{Stands}
+use Rattle.seek.proofs.Below.{under, flat-root, under-kinds, run-over}
+use Rattle.seek.proofs.Laws.{Stands}
 use Rattle.removals.specs.Named.{before}
 use Rattle.removals.proofs.Cut.{Cut}
 

@@ -19,8 +19,8 @@ use Rattle.machine.specs.declared.Edited.the-variants.{Done, Refused}
 use Rattle.laws.specs.Layout.{layOut-read}
 use Rattle.moves.specs.Over.{removed}
 use Rattle.seek.specs.Seek.{Good, Within, held, between, run, atomRecords, spanAt, span, spanOf}
-use Rattle.seek.specs.Below.{between-cons}
-use Rattle.seek.specs.Laws.{Stands, missing, found, stands-within, stands-records}
+use Rattle.seek.proofs.Below.{between-cons}
+use Rattle.seek.proofs.Laws.{Stands, missing, found, stands-within, stands-records}
 use Rattle.seek.specs.declared.Span as Span
 use Rattle.removals.specs.Removal.{Removable, withoutRecords, removalOn, removal}
 use Rattle.removals.specs.Named.{Id, idOf, named, sought, before, names, flagOf, firstOn, firstRemoval}

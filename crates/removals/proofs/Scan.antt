@@ -10,7 +10,7 @@ use borrow.Author.Tests.{eq-eqb, ne-eqb}
 use Rattle.machine.specs.Text.{matches, matchesOptional}
 use Rattle.machine.specs.Record.{Words, kind}
 use Rattle.seek.specs.Seek.{Within, recordAt, between}
-use Rattle.seek.specs.Below.{record-word, record-kind, between-cons, between-nil}
+use Rattle.seek.proofs.Below.{record-word, record-kind, between-cons, between-nil}
 use Rattle.removals.specs.Named.{Id, idOf, named, sought, before}
 
 -- ---- is_named

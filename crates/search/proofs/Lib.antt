@@ -2,3 +2,4 @@ pub mod Nodes
 pub mod Depth
 pub mod Postfix
 pub mod Lowest
+pub mod Laws

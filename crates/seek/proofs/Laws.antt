@@ -1,241 +1,319 @@
--- What each loop keeps, and what it gives where it is left. Assumes nothing.
-use Prim.Native.Nat.{ℕ, suc, _+_, _-_, _*_, _/_, _≤_, _<_}
+-- Laws of where records stand in a good store, for the crates that ask. Assumes nothing.
+use Prim.Native.Nat.{ℕ, zero, suc, _+_, _/_, _≤_, _<_}
 use mathlib.Core.Path.{_≡_, refl, sym, ap, _∙_}
-use mathlib.Core.List.{List, _∷_}
+use mathlib.Core.Bool.{false}
+use mathlib.Core.List.{List, [], _∷_, _++_, append-assoc}
 use mathlib.Core.Option.{Option, none, some}
-use native.Mathlib.Nat.{add-zero, zero-add}
-use native.Mathlib.Numerals.{add-one}
+use native.Mathlib.Nat.{add-zero, zero-add, add-assoc}
 use native.Mathlib.Omega.{arith}
-use lib.ListN.{length, drop, getD, drop-of-length-le}
-use lib.Seq.{drop-cons, drop-drop}
-use borrow.Author.Tests.{le-ltb, lt-ltb, eq-eqb, ne-eqb}
-use Rattle.machine.specs.Lists.{andThen}
-use Rattle.machine.specs.Record.{Words}
-use Rattle.machine.specs.Store.{records, chunks}
-use Rattle.laws.specs.Layout.{records-read, read-parts, read-length, length-parts}
-use Rattle.seek.specs.Seek.{Good, Within, held, recordAt, between, run, child, atChild, childStart, toEnd, childSpan, atomRecords, span, startOf, spanOf}
-use Rattle.seek.specs.Below.{between-cons, record-kind, between-nil, child-pass, child-next, child-here, child-low, child-nil, child-below, spanIn, span-machine}
-use Rattle.seek.specs.Laws.{records-count}
+use lib.ListN.{length, length-append}
+use lib.Seq.{take-at, drop-at}
+use lib.Dec.{eqb}
+use borrow.Author.Tests.{ne-eqb}
+use Rattle.machine.specs.Lists.{sum, bind, nth, andThen}
+use Rattle.machine.specs.Answer.{ok}
+use Rattle.machine.specs.Record.{Words, words, kind}
+use Rattle.machine.specs.Store.{Branch, Machine, flat, records, atomCount, stored, end, group, readStore}
+use Rattle.machine.specs.Find.{size}
+use Rattle.machine.specs.Lookup.{numbered}
+use Rattle.machine.specs.Edit.{up, branchAt, replaceAt}
+use Rattle.laws.specs.Lists.{and-then, sum-append, bind-append}
+use Rattle.laws.specs.Grouped.{words-kind, group-flats, chunks-length}
+use Rattle.laws.specs.Layout.{records-read, read-parts}
+use Rattle.laws.specs.Places.{Around, Spot}
+use Rattle.seek.specs.Seek.{held, Good, Within, between, isAtom, atomRecords, spanAt, span, spanOf}
+use Rattle.seek.proofs.Below.{chunks-take, flat-root}
 use Rattle.seek.specs.declared.Span as Span
-use Rattle.seek.specs.declared.Start as Start
 
--- ---- end_of
+-- ---- a good store
 
-pub record Ran (w : List ℕ) (from end h at : ℕ) : Type 0 where
-  pub high : at ≤ end
-  pub same : from + run h (between from end w) ≡ at + run h (between at end w)
+-- a store that is read holds what it is read to, and has as many records as its trailer says
+module _ (w : List ℕ) (m : Machine) (h : readStore w ≡ ok m) where
+  pub held-is : held w ≡ m
+  held-is = ap (group 4) (sym (records-read w m h)) ∙ group-flats 4 (omega arith) m
 
-pub ran-begin : (w : List ℕ) (from end h : ℕ) → Within from end w → Ran w from end h from
-ran-begin w from end h i = record { high = i .order; same = refl }
+  pub good-store : Good w
+  good-store = rw held-is h
 
-module _ (w : List ℕ) (from end h at : ℕ) (s : Ran w from end h at) where
-  pub ran-on : at < end → h < getD w (at * 12) 0 → Ran w from end h (at + 1)
-  unfolding run
-  ran-on l k =
-      record {
-        high = omega arith;
-        same = s .same ∙ rw (between-cons w end at l, record-kind w at, lt-ltb h (getD w (at * 12) 0) k) (omega arith);
-      }
+  pub records-count : length (records m) ≡ end w / 12
+  records-count = ap length (records-read w m h) ∙ chunks-length (end w / 12) w
 
-  pub ran-stop : at < end → getD w (at * 12) 0 ≤ h → at ≡ from + run h (between from end w)
-  unfolding run
-  ran-stop l k = sym (s .same ∙ rw (between-cons w end at l, record-kind w at, le-ltb h (getD w (at * 12) 0) k, add-zero))
+-- ---- the branch at a position
 
-  pub ran-end : end ≤ at → at ≡ from + run h (between from end w)
-  unfolding run
-  ran-end l = sym (s .same ∙ rw (between-nil w end at l, add-zero))
+-- the i-th branch, with the number of its first record
+record Numbered (k i n : ℕ) (ts : List (Branch k)) (t : Branch k) : Type 0 where
+  around : Around i ts t
+  number : nth i (numbered k n ts) ≡ some (n + length (bind (flat k) (around .before)), t)
 
--- ---- start_of
-
-pub record Sought (w : List ℕ) (from end h i at left : ℕ) : Type 0 where
-  pub high : at ≤ end
-  pub same : childStart h i from (between from end w) ≡ childStart h left at (between at end w)
-
-pub sought-begin : (w : List ℕ) (from end h i : ℕ) → Within from end w → Sought w from end h i from i
-sought-begin w from end h i b = record { high = b .order; same = refl }
-
-module _ (w : List ℕ) (from end h i at left : ℕ) (s : Sought w from end h i at left) where
-  pub sought-out : end ≤ at → Start.the-variants.Missing ≡ startOf (childStart h i from (between from end w))
-  sought-out l = rw (s .same, between-nil w end at l, child-nil h (λ m after. some m) left at)
-
-  module _ (l : at < end) where
-    -- the search from the record at hand on
-    from-here : childStart h i from (between from end w) ≡ childStart h left at (recordAt at w ∷ between (at + 1) end w)
-    from-here = s .same ∙ ap (childStart h left at) (between-cons w end at l)
-
-    pub sought-pass : h ≤ getD w (at * 12) 0 → (getD w (at * 12) 0 ≡ h → ⊥) → Sought w from end h i (at + 1) left
-    sought-pass k n =
-        let e = record-kind w at in
-        record { high = omega arith; same = from-here ∙ rw add-one (child-pass h (λ m after. some m) left at (recordAt at w) (between (suc at) end w) (omega arith)) }
-
-    pub sought-next : getD w (at * 12) 0 ≡ h → (left ≡ 0 → ⊥) → Sought w from end h i (at + 1) (left - 1)
-    sought-next k n =
-        let q : left ≡ suc (left - 1) = omega arith in
-        record {
-          high = omega arith;
-          same = from-here ∙ ap (λ (x : ℕ). childStart h x at (recordAt at w ∷ between (at + 1) end w)) q ∙ rw add-one (child-next h (λ m after. some m) (left - 1) at (recordAt at w) (between (suc at) end w) (record-kind w at ∙ k));
-        }
-
-    pub sought-low : getD w (at * 12) 0 < h → Start.the-variants.Missing ≡ startOf (childStart h i from (between from end w))
-    sought-low k =
-        let e = record-kind w at in
-        rw (from-here, child-low h (λ m after. some m) left at (recordAt at w) (between (at + 1) end w) (omega arith))
-
-    pub sought-here : getD w (at * 12) 0 ≡ h → left ≡ 0 → Start.the-variants.At at ≡ startOf (childStart h i from (between from end w))
-    sought-here k z =
-        sym
-        (ap startOf
-        (from-here ∙ ap (λ (x : ℕ). childStart h x at (recordAt at w ∷ between (at + 1) end w)) z ∙ child-here h (λ m after. some m) at (recordAt at w) (between (at + 1) end w) (record-kind w at ∙ k)))
-
--- ---- what start_of finds
-
--- the record found, by its offset
-pub record Met (h i from end : ℕ) (w : List ℕ) (at : ℕ) : Type 0 where
-  pub offset : ℕ
-  pub found : child h i (between from end w) ≡ some offset
-  pub number : from + offset ≡ at
-  pub below : at < end
-
-module _ (w : List ℕ) (h i from end : ℕ) where
-  pub met : (r : Start.Start) (at : ℕ) → Within from end w → r ≡ startOf (childStart h i from (between from end w)) → r ≡ Start.the-variants.At at → Met h i from end w at
-  met r at b e m = go (child h i (between from end w)) refl (sym e ∙ m)
-    where
-      go : (c : Option ℕ) → child h i (between from end w) ≡ c → startOf (andThen c (λ o. some (from + o))) ≡ Start.the-variants.At at → Met h i from end w at
-      go none q p = let z : _≡_ {A = ℕ} 0 1 = cc in absurd (omega arith)
-      go (some o) q p = let n : from + o ≡ at = cc in record { offset = o; found = q; number = n; below = omega (arith, child-below w h i from end o b q) }
-
-  pub unmet : {A : Type 0} (f : ℕ → List Words → Option A) → startOf (childStart h i from (between from end w)) ≡ Start.the-variants.Missing → atChild h i f from (between from end w) ≡ none
-  unmet {A} f e = go (child h i (between from end w)) e
-    where
-      go : (c : Option ℕ) → startOf (andThen c (λ o. some (from + o))) ≡ Start.the-variants.Missing → andThen c (λ o. f (from + o) (drop (suc o) (between from end w))) ≡ none
-      go none p = refl
-      go (some o) p = let z : _≡_ {A = ℕ} 0 1 = cc in absurd (omega arith)
-
-  pub met-is : {A : Type 0} (f : ℕ → List Words → Option A) (at : ℕ) → Met h i from end w at → atChild h i f from (between from end w) ≡ f at (between (at + 1) end w)
-  met-is f at m =
-      let q : from + suc (m .offset) ≡ at + 1 = omega (arith, m .number) in
-      rw (m .found, drop-drop (suc (m .offset)) from (chunks end w), q, m .number)
-
--- ---- child
-
-pub child-missing : (w : List ℕ) (h i from end : ℕ) (r : Start.Start) → r ≡ startOf (childStart h i from (between from end w)) → r ≡ Start.the-variants.Missing
-    → Span.the-variants.Missing ≡ spanOf (childSpan h i from (between from end w))
-child-missing w h i from end r e m = rw (unmet w h i from end (toEnd h) (sym e ∙ m))
-
-pub after-child : (w : List ℕ) (h i from end : ℕ) (r : Start.Start) (at : ℕ) → Within from end w → r ≡ startOf (childStart h i from (between from end w)) → r ≡ Start.the-variants.At at
-    → Within (at + 1) end w
-after-child w h i from end r at b e m = record { order = omega (arith, met w h i from end r at b e m .below); room = b .room }
-
-pub child-is : (w : List ℕ) (h i from end : ℕ) (r : Start.Start) (at stop : ℕ) → Within from end w → r ≡ startOf (childStart h i from (between from end w)) → r ≡ Start.the-variants.At at → stop ≡ at + 1 + run h (between (at + 1) end w)
-    → Span.the-variants.At at stop ≡ spanOf (childSpan h i from (between from end w))
-child-is w h i from end r at stop b c d e =
-    let m = met w h i from end r at b c d in
-    let q : stop ≡ suc at + run h (between (at + 1) end w) = e ∙ ap (λ (x : ℕ). x + run h (between (at + 1) end w)) (add-one at) in
-    rw (met-is w h i from end (toEnd h) at m, q)
-
--- ---- record_count
-
-module _ (w : List ℕ) (g : Good w) where
-  pub good-length : 1 ≤ length w
-  good-length = length-parts (length w) (read-length w (held w) g) .0
-
-  pub count-is : getD w (length w - 1) 0 / 12 ≡ length (records (held w))
-  count-is = sym (records-count w (held w) g)
-
--- ---- locate
-
-pub record Located (w pos : List ℕ) (count level at : ℕ) : Type 0 where
-  pub room : count * 12 ≤ length w
-  pub high : at ≤ count
-  pub deep : level ≤ length pos
-  pub low : level ≤ at
-  pub same : span pos (held w) ≡ spanIn level (drop level pos) at (between at count w)
-
-pub locate-begin : (w pos : List ℕ) (count : ℕ) → Good w → 1 ≤ length pos → length pos ≤ 5 → count ≡ length (records (held w)) → Located w pos count 0 0
-locate-begin w pos count g lo hi e =
-    let q = e ∙ records-count w (held w) g in
-    let p = read-parts w (held w) g .low in
-    let r : records (held w) ≡ chunks count w = records-read w (held w) g ∙ ap (λ (n : ℕ). chunks n w) (sym q) in
+nth-numbered : (k i n : ℕ) (ts : List (Branch k)) (t : Branch k) → nth i ts ≡ some t → Numbered k i n ts t
+unfolding numbered
+nth-numbered k i n [] t e = let z : _≡_ {A = ℕ} 0 1 = cc in absurd (omega arith)
+nth-numbered k zero n (u ∷ ts) t e =
+    let q : u ≡ t = cc in
+    record { around = record { before = []; after = ts; was = rw q; is = λ f. rw q }; number = rw (add-zero, q) }
+nth-numbered k (suc i) n (u ∷ ts) t e =
+    let r = nth-numbered k i (n + size k u) ts t e in
+    let a = r .around in
     record {
-      room = omega arith;
-      high = omega arith;
-      deep = omega arith;
-      low = omega arith;
-      same = sym (span-machine pos (held w) lo hi) ∙ ap (spanIn 0 pos 0) r;
+      around = record { before = u ∷ a .before; after = a .after; was = ap (λ (l : List (Branch k)). u ∷ l) (a .was); is = λ f. ap (λ (l : List (Branch k)). u ∷ l) (a .is f) };
+      number = r .number ∙ rw (length-append (flat k u), add-assoc);
     }
 
--- the way on from a record at the index of a level
-abbrev onward : ℕ → List ℕ → ℕ → List Words → Option (ℕ × ℕ)
-onward level pos m after = spanIn (level + 1) (drop (level + 1) pos) (suc m) after
+no-numbered : (k i n : ℕ) (ts : List (Branch k)) → nth i ts ≡ none → nth i (numbered k n ts) ≡ none
+unfolding numbered
+no-numbered k i n [] e = refl
+no-numbered k zero n (t ∷ ts) e = let z : _≡_ {A = ℕ} 0 1 = cc in absurd (omega arith)
+no-numbered k (suc i) n (t ∷ ts) e = no-numbered k i (n + size k t) ts e
 
-module _ (w pos : List ℕ) (count level at : ℕ) (s : Located w pos count level at) where
-  pub located-within : Within at count w
-  located-within = record { order = s .high; room = s .room }
+-- how many records there are, with those of the branch at a position
+pub spot-length : (d j : ℕ) (pos : List ℕ) (ts : List (Branch (up d j))) (t : Branch j) (s : Spot d j pos ts t)
+    → length (bind (flat (up d j)) ts) ≡ length (s .pre) + (size j t + length (s .post))
+spot-length d j pos ts t s =
+    ap length (s .was) ∙ length-append (s .pre) (flat j t ++ s .post) ∙ ap (λ (z : ℕ). length (s .pre) + z) (length-append (flat j t) (s .post))
 
-  -- one index more
-  one-index : level < length pos → span pos (held w) ≡ atChild (level + 1) (getD pos level 0) (onward level pos) at (between at count w)
-  unfolding spanIn
-  one-index l = s .same ∙ rw (drop-cons pos level 0 l, add-one)
+-- an answer tells its span
+pub at-span : (o : Option (ℕ × ℕ)) (start stop : ℕ) → spanOf o ≡ Span.the-variants.At start stop → o ≡ some (start, stop)
+at-span none start stop e = let z : _≡_ {A = ℕ} 0 1 = cc in absurd (omega arith)
+at-span (some s) start stop e =
+    let x : s .0 ≡ start = cc in
+    let y : s .1 ≡ stop = cc in
+    λ i. some (x i, y i)
 
-  pub located-below : (r : Start.Start) (number : ℕ) → r ≡ startOf (childStart (level + 1) (getD pos level 0) at (between at count w)) → r ≡ Start.the-variants.At number
-      → Met (level + 1) (getD pos level 0) at count w number
-  located-below r number e q = met w (level + 1) (getD pos level 0) at count r number located-within e q
+-- the branch at a position: its records among all, and the numbers from start up to stop that they have
+pub record Stands (d j : ℕ) (pos : List ℕ) (n : ℕ) (ts : List (Branch (up d j))) (start stop : ℕ) : Type 0 where
+  pub branch : Branch j
+  pub there : branchAt d j pos ts ≡ some branch
+  pub spot : Spot d j pos ts branch
+  pub first : start ≡ n + length (spot .pre)
+  pub last : stop ≡ start + size j branch
 
-  pub located-on : (r : Start.Start) (number : ℕ) → level < length pos → r ≡ startOf (childStart (level + 1) (getD pos level 0) at (between at count w)) → r ≡ Start.the-variants.At number
-      → Located w pos count (level + 1) (number + 1)
-  located-on r number l e q =
-      let m = located-below r number e q in
-      let b = m .below in
-      let n = m .number in
-      let o = s .low in
-      record {
-        room = s .room;
-        high = omega arith;
-        deep = omega arith;
-        low = omega arith;
-        same = one-index l ∙ met-is w (level + 1) (getD pos level 0) at count (onward level pos) number m ∙ ap (λ (x : ℕ). spanIn (level + 1) (drop (level + 1) pos) x (between (number + 1) count w)) (sym (add-one number));
-      }
+-- where it is found, its span is that of its records
+pub record Stood (d j : ℕ) (pos : List ℕ) (n : ℕ) (ts : List (Branch (up d j))) (t : Branch j) : Type 0 where
+  pub spot : Spot d j pos ts t
+  pub span : spanAt d j pos n ts ≡ some (n + length (spot .pre), n + length (spot .pre) + size j t)
 
-  pub located-missing : (r : Start.Start) → level < length pos → r ≡ startOf (childStart (level + 1) (getD pos level 0) at (between at count w)) → r ≡ Start.the-variants.Missing
-      → Span.the-variants.Missing ≡ spanOf (span pos (held w))
-  located-missing r l e m =
-      sym (ap spanOf (one-index l ∙ unmet w (level + 1) (getD pos level 0) at count (onward level pos) (sym e ∙ m)))
+-- the records around one branch's child
+flats-below : (k : ℕ) (before after : List (Branch (suc k))) (u : Branch (suc k)) (ts : List (Branch (suc k))) (pre mid post : List Words)
+    → ts ≡ before ++ (u ∷ after) → bind (flat k) (u .1) ≡ pre ++ (mid ++ post)
+    → bind (flat (suc k)) ts ≡ (bind (flat (suc k)) before ++ (words (suc k) (u .0) ∷ pre)) ++ (mid ++ (post ++ bind (flat (suc k)) after))
+unfolding flat
+flats-below k before after u ts pre mid post e f = rw (e, bind-append (flat (suc k)) before (u ∷ after), f) (simp append-assoc)
 
-  pub located-end : (stop : ℕ) → length pos ≤ level → stop ≡ at + run level (between at count w) → Span.the-variants.At (at - 1) stop ≡ spanOf (span pos (held w))
-  unfolding spanIn
-  located-end stop l e = rw (s .same, drop-of-length-le pos l, e)
+-- a child's span is that of the whole position
+span-down : (d j i : ℕ) (is : List ℕ) (n : ℕ) (ts : List (Branch (suc (up d j)))) (u : ℕ × Branch (suc (up d j))) (a b c : ℕ)
+    → nth i (numbered (suc (up d j)) n ts) ≡ some u → spanAt d j is (suc (u .0)) (u .1 .1) ≡ some (a, a + c) → a ≡ b → spanAt (suc d) j (i ∷ is) n ts ≡ some (b, b + c)
+unfolding spanAt
+span-down d j i is n ts u a b c e f q = rw (e, f, q)
 
--- ---- atoms_in
+pub span-some : (d j : ℕ) (pos : List ℕ) (n : ℕ) (ts : List (Branch (up d j))) (t : Branch j) → branchAt d j pos ts ≡ some t → Stood d j pos n ts t
+unfolding branchAt replaceAt spanAt flat
+span-some d j [] n ts t e = let z : _≡_ {A = ℕ} 0 1 = cc in absurd (omega arith)
+span-some zero j (i ∷ is) n ts t e =
+    let r = nth-numbered j i n ts t e in
+    let a = r .around in
+    record {
+      spot = record {
+        pre = bind (flat j) (a .before);
+        post = bind (flat j) (a .after);
+        was = ap (bind (flat j)) (a .was) ∙ bind-append (flat j) (a .before) (t ∷ a .after);
+        is = λ new. ap (bind (flat j)) (a .is (λ u. new)) ∙ simp bind-append;
+      };
+      span = rw (r .number);
+    }
+span-some (suc d) j (i ∷ is) n ts t e =
+    let k = suc (up d j) in
+    let s = and-then (nth i ts) (λ u. branchAt d j is (u .1)) t e in
+    let u = s .0 in
+    let r = nth-numbered k i n ts u (s .1) in
+    let a = r .around in
+    let lead = bind (flat k) (a .before) in
+    let below = span-some d j is (suc (n + length lead)) (u .1) t (s .2) in
+    let b = below .spot in
+    let p : suc (n + length lead) + length (b .pre) ≡ n + length (lead ++ (words k (u .0) ∷ b .pre)) = omega (arith, length-append lead (words k (u .0) ∷ b .pre)) in
+    record {
+      spot = record {
+        pre = lead ++ (words k (u .0) ∷ b .pre);
+        post = b .post ++ bind (flat k) (a .after);
+        was = flats-below (up d j) (a .before) (a .after) u ts (b .pre) (flat j t) (b .post) (a .was) (b .was);
+        is = λ new. flats-below (up d j) (a .before) (a .after) (u .0, replaceAt d j is new (u .1)) _ (b .pre) (bind (flat j) new) (b .post) (a .is (λ v. (v .0, replaceAt d j is new (v .1)) ∷ [])) (b .is new);
+      };
+      span = span-down d j i is n ts _ _ _ (size j t) (r .number) (below .span) p;
+    }
 
-pub record Counted (w : List ℕ) (from end atoms at : ℕ) : Type 0 where
-  pub high : at ≤ end
-  pub few : atoms ≤ at
-  pub total : atomRecords (between from end w) ≡ atoms + atomRecords (between at end w)
+-- "5 no such position" is where there is no span
+pub span-none : (d j : ℕ) (pos : List ℕ) (n : ℕ) (ts : List (Branch (up d j))) → branchAt d j pos ts ≡ none → spanAt d j pos n ts ≡ none
+unfolding branchAt spanAt
+span-none d j [] n ts e = refl
+span-none zero j (i ∷ is) n ts e = rw (no-numbered j i n ts e)
+span-none (suc d) j (i ∷ is) n ts e = go (λ m us. span-none d j is m us) (nth i ts) refl e
+  where
+    go : ((m : ℕ) (us : List (Branch (up d j))) → branchAt d j is us ≡ none → spanAt d j is m us ≡ none)
+        → (o : Option (Branch (suc (up d j)))) → nth i ts ≡ o → andThen o (λ t. branchAt d j is (t .1)) ≡ none
+        → andThen (nth i (numbered (suc (up d j)) n ts)) (λ t. spanAt d j is (suc (t .0)) (t .1 .1)) ≡ none
+    go below none q p = rw (no-numbered (suc (up d j)) i n ts q)
+    go below (some t) q p = let r = nth-numbered (suc (up d j)) i n ts t q in rw (r .number) (below _ (t .1) p)
 
-pub count-begin : (w : List ℕ) (from end : ℕ) → Within from end w → Counted w from end 0 from
-count-begin w from end b = record { high = b .order; few = omega arith; total = sym (zero-add _) }
+-- what the answers tell
+module _ (d j : ℕ) (pos : List ℕ) (n : ℕ) (ts : List (Branch (up d j))) where
+  pub missing : spanOf (spanAt d j pos n ts) ≡ Span.the-variants.Missing → branchAt d j pos ts ≡ none
+  missing e = go (branchAt d j pos ts) refl
+    where
+      go : (o : Option (Branch j)) → branchAt d j pos ts ≡ o → branchAt d j pos ts ≡ none
+      go none q = q
+      go (some t) q = let s = span-some d j pos n ts t q .span in let z : _≡_ {A = ℕ} 0 1 = cc in absurd (omega arith)
 
-module _ (w : List ℕ) (from end atoms at : ℕ) (s : Counted w from end atoms at) where
-  pub count-one : at < end → getD w (at * 12) 0 ≡ 5 → Counted w from end (atoms + 1) (at + 1)
-  unfolding atomRecords
-  count-one l k =
-      let f = s .few in
-      record {
-        high = omega arith;
-        few = omega arith;
-        total = s .total ∙ rw (between-cons w end at l, record-kind w at, eq-eqb (getD w (at * 12) 0) 5 k) (omega arith);
-      }
+  pub stands : (start stop : ℕ) → spanAt d j pos n ts ≡ some (start, stop) → Stands d j pos n ts start stop
+  stands start stop e = go (branchAt d j pos ts) refl
+    where
+      go : (o : Option (Branch j)) → branchAt d j pos ts ≡ o → Stands d j pos n ts start stop
+      go none q = let s = span-none d j pos n ts q in let z : _≡_ {A = ℕ} 0 1 = cc in absurd (omega arith)
+      go (some t) q =
+          let s = span-some d j pos n ts t q in
+          let f = s .span in
+          let p : _≡_ {A = ℕ × ℕ} (start, stop) (n + length (s .spot .pre), n + length (s .spot .pre) + size j t) = cc in
+          let x : start ≡ n + length (s .spot .pre) = ap (λ (z : ℕ × ℕ). z .0) p in
+          let y : stop ≡ n + length (s .spot .pre) + size j t = ap (λ (z : ℕ × ℕ). z .1) p in
+          record { branch = t; there = q; spot = s .spot; first = x; last = y ∙ rw x }
 
-  pub count-none : at < end → (getD w (at * 12) 0 ≡ 5 → ⊥) → Counted w from end atoms (at + 1)
-  unfolding atomRecords
-  count-none l k =
-      let f = s .few in
-      record {
-        high = omega arith;
-        few = omega arith;
-        total = s .total ∙ rw (between-cons w end at l, record-kind w at, ne-eqb (getD w (at * 12) 0) 5 k) (omega arith);
-      }
+  pub found : (start stop : ℕ) → spanOf (spanAt d j pos n ts) ≡ Span.the-variants.At start stop → Stands d j pos n ts start stop
+  found start stop e = stands start stop (at-span (spanAt d j pos n ts) start stop e)
 
-  pub count-end : end ≤ at → atoms ≡ atomRecords (between from end w)
-  unfolding atomRecords
-  count-end l = sym (s .total ∙ rw (between-nil w end at l, add-zero))
+-- ---- two positions
+
+numbered-low : (k i n : ℕ) (ts : List (Branch k)) (u : ℕ × Branch k) → nth i (numbered k n ts) ≡ some u → n ≤ u .0
+unfolding numbered
+numbered-low k i n [] u e = let z : _≡_ {A = ℕ} 0 1 = cc in absurd (omega arith)
+numbered-low k zero n (t ∷ ts) u e =
+    let p : _≡_ {A = ℕ × Branch k} (n, t) u = cc in
+    let q : n ≡ u .0 = ap (λ (z : ℕ × Branch k). z .0) p in
+    omega arith
+numbered-low k (suc i) n (t ∷ ts) u e = omega (arith, numbered-low k i (n + size k t) ts u e)
+
+-- a record's number stands in one branch only
+record Holds (k : ℕ) (u : ℕ × Branch k) (a : ℕ) : Type 0 where
+  low : u .0 ≤ a
+  high : a < u .0 + size k (u .1)
+
+past-first : (k i n : ℕ) (t : Branch k) (ts : List (Branch k)) (u v : ℕ × Branch k) (a : ℕ) → _≡_ {A = Option (ℕ × Branch k)} (some (n, t)) (some u)
+    → nth i (numbered k (n + size k t) ts) ≡ some v → Holds k u a → Holds k v a → ⊥
+past-first k i n t ts u v a e f g h =
+    let p : _≡_ {A = ℕ × Branch k} (n, t) u = cc in
+    let q : n + size k t ≡ u .0 + size k (u .1) = ap (λ (z : ℕ × Branch k). z .0 + size k (z .1)) p in
+    let o = numbered-low k i (n + size k t) ts v f in
+    omega (arith, g .high, h .low)
+
+one-branch : (k i l n : ℕ) (ts : List (Branch k)) (u v : ℕ × Branch k) (a : ℕ) → nth i (numbered k n ts) ≡ some u → nth l (numbered k n ts) ≡ some v
+    → Holds k u a → Holds k v a → i ≡ l
+unfolding numbered
+one-branch k i l n [] u v a e f g h = let z : _≡_ {A = ℕ} 0 1 = cc in absurd (omega arith)
+one-branch k zero zero n (t ∷ ts) u v a e f g h = refl
+one-branch k zero (suc l) n (t ∷ ts) u v a e f g h = absurd (past-first k l n t ts u v a e f g h)
+one-branch k (suc i) zero n (t ∷ ts) u v a e f g h = absurd (past-first k i n t ts v u a f e h g)
+one-branch k (suc i) (suc l) n (t ∷ ts) u v a e f g h = ap suc (one-branch k i l (n + size k t) ts u v a e f g h)
+
+-- the first index's branch holds the record
+record Inside (d j i n : ℕ) (ts : List (Branch (up d j))) (a : ℕ) : Type 0 where
+  outer : ℕ × Branch (up d j)
+  there : nth i (numbered (up d j) n ts) ≡ some outer
+  holds : Holds (up d j) outer a
+
+inside : (d j i : ℕ) (is : List ℕ) (n : ℕ) (ts : List (Branch (up d j))) (a b : ℕ) → spanAt d j (i ∷ is) n ts ≡ some (a, b) → Inside d j i n ts a
+unfolding spanAt flat
+inside zero j i is n ts a b e =
+    let s = and-then (nth i (numbered j n ts)) (λ t. some (t .0, t .0 + size j (t .1))) (a, b) e in
+    let p : _≡_ {A = ℕ × ℕ} (s .0 .0, s .0 .0 + size j (s .0 .1)) (a, b) = let q = s .2 in cc in
+    let x : s .0 .0 ≡ a = ap (λ (z : ℕ × ℕ). z .0) p in
+    record { outer = s .0; there = s .1; holds = record { low = omega arith; high = omega (arith, ap length (flat-root j (s .0 .1))) } }
+inside (suc d) j i is n ts a b e =
+    let s = and-then (nth i (numbered (suc (up d j)) n ts)) (λ t. spanAt d j is (suc (t .0)) (t .1 .1)) (a, b) e in
+    let u = s .0 in
+    let t = stands d j is (suc (u .0)) (u .1 .1) a b (s .2) in
+    let x = t .first in
+    let y = spot-length d j is (u .1 .1) (t .branch) (t .spot) in
+    record { outer = u; there = s .1; holds = record { low = omega arith; high = omega (arith, ap length (flat-root j (t .branch))) } }
+
+span-below : (d j i : ℕ) (is : List ℕ) (n : ℕ) (ts : List (Branch (suc (up d j)))) (u : ℕ × Branch (suc (up d j))) (s : Option (ℕ × ℕ))
+    → nth i (numbered (suc (up d j)) n ts) ≡ some u → spanAt (suc d) j (i ∷ is) n ts ≡ s → spanAt d j is (suc (u .0)) (u .1 .1) ≡ s
+unfolding spanAt
+span-below d j i is n ts u s e f = rw e at f
+
+-- two positions of one length at which the same record starts are the same
+pub span-inj : (d j : ℕ) (p q : List ℕ) (n : ℕ) (ts : List (Branch (up d j))) (a b c : ℕ) → length p ≡ suc d → length q ≡ suc d
+    → spanAt d j p n ts ≡ some (a, b) → spanAt d j q n ts ≡ some (a, c) → p ≡ q
+span-inj d j [] q n ts a b c lp lq e f = absurd (omega arith)
+span-inj d j (i ∷ is) [] n ts a b c lp lq e f = absurd (omega arith)
+span-inj zero j (i ∷ (x ∷ is)) (l ∷ ls) n ts a b c lp lq e f = absurd (omega arith)
+span-inj zero j (i ∷ []) (l ∷ (x ∷ ls)) n ts a b c lp lq e f = absurd (omega arith)
+span-inj zero j (i ∷ []) (l ∷ []) n ts a b c lp lq e f =
+    let g = inside zero j i [] n ts a b e in
+    let h = inside zero j l [] n ts a c f in
+    ap (λ (x : ℕ). x ∷ []) (one-branch j i l n ts (g .outer) (h .outer) a (g .there) (h .there) (g .holds) (h .holds))
+span-inj (suc d) j (i ∷ is) (l ∷ ls) n ts a b c lp lq e f =
+    let g = inside (suc d) j i is n ts a b e in
+    let h = inside (suc d) j l ls n ts a c f in
+    let x = one-branch (suc (up d j)) i l n ts (g .outer) (h .outer) a (g .there) (h .there) (g .holds) (h .holds) in
+    let f′ : spanAt (suc d) j (i ∷ ls) n ts ≡ some (a, c) = ap (λ (y : ℕ). spanAt (suc d) j (y ∷ ls) n ts) x ∙ f in
+    let u = g .outer in
+    let y = span-inj d j is ls (suc (u .0)) (u .1 .1) a b c (omega arith) (omega arith) (span-below d j i is n ts u _ (g .there) e) (span-below d j i ls n ts u _ (g .there) f′) in
+    λ k. x k ∷ y k
+
+-- ---- atoms
+
+sum-bind : {A : Type 0} (f : Words → ℕ) (g : A → List Words) (h : A → ℕ) → ((x : A) → sum f (g x) ≡ h x) → (xs : List A) → sum f (bind g xs) ≡ sum h xs
+sum-bind f g h e [] = refl
+sum-bind f g h e (x ∷ xs) = sum-append f (g x) (bind g xs) ∙ rw (e x, sum-bind f g h e xs)
+
+pub atoms-branch : (k : ℕ) → k ≤ 4 → (t : Branch k) → atomRecords (flat k t) ≡ atomCount k t
+unfolding atomRecords flat atomCount
+atoms-branch zero l t = rw (words-kind zero l t)
+atoms-branch (suc k) l t =
+    let e : eqb (kind (words (suc k) (t .0))) 5 ≡ false = ne-eqb (kind (words (suc k) (t .0))) 5 (λ q. omega (arith, words-kind (suc k) l (t .0))) in
+    rw (e, zero-add) (sum-bind isAtom (flat k) (atomCount k) (atoms-branch k (omega arith)) (t .1))
+
+pub atoms-stored : (m : Machine) → atomRecords (records m) ≡ stored m
+unfolding atomRecords
+atoms-stored m = sum-bind isAtom (flat 4) (atomCount 4) (atoms-branch 4 (omega arith)) m
+
+-- ---- the words of a good store
+
+module _ (w : List ℕ) (g : Good w) where
+  -- all its records
+  pub whole-within : Within 0 (length (records (held w))) w
+  whole-within =
+      let c = records-count w (held w) g in
+      let l = read-parts w (held w) g .low in
+      record { order = omega arith; room = omega arith }
+
+  pub whole-records : between 0 (length (records (held w))) w ≡ records (held w)
+  whole-records = rw (records-count w (held w) g) (sym (records-read w (held w) g))
+
+  pub whole-atoms : atomRecords (between 0 (length (records (held w))) w) ≡ stored (held w)
+  whole-atoms = rw whole-records (atoms-stored (held w))
+
+  -- those of the branch at a position
+  module _ (d j : ℕ) (pos : List ℕ) (ts : List (Branch (up d j))) (start stop : ℕ) (whole : records (held w) ≡ bind (flat (up d j)) ts) (s : Stands d j pos 0 ts start stop) where
+    stop-low : stop ≤ length (records (held w))
+    stop-low =
+        let f = s .first in
+        let l = s .last in
+        let y = ap length whole ∙ spot-length d j pos ts (s .branch) (s .spot) in
+        omega arith
+
+    pub stands-within : Within start stop w
+    stands-within =
+        let l = s .last in
+        let r = whole-within .room in
+        let o = stop-low in
+        record { order = omega arith; room = omega arith }
+
+    pub stands-records : between start stop w ≡ flat j (s .branch)
+    stands-records =
+        let t = s .spot in
+        let o = stop-low in
+        let c = chunks-take stop (length (records (held w))) w o in
+        let f : start ≡ length (t .pre) = s .first ∙ zero-add _ in
+        let l : length (t .pre ++ flat j (s .branch)) ≡ stop = omega (arith, length-append (t .pre) (flat j (s .branch)), s .last) in
+        rw (c, whole-records, whole, t .was, ← append-assoc (t .pre), take-at (t .pre ++ flat j (s .branch)) (t .post) stop l) (drop-at (t .pre) (flat j (s .branch)) start (sym f))
+
+    pub stands-atoms : j ≤ 4 → atomRecords (between start stop w) ≡ atomCount j (s .branch)
+    stands-atoms l = rw stands-records (atoms-branch j l (s .branch))

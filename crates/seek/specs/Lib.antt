@@ -1,3 +1,1 @@
 pub mod Seek
-pub mod Below
-pub mod Laws

@@ -23,12 +23,12 @@ use Rattle.laws.specs.Grouped.{concat}
 use Rattle.moves.specs.Over.{over}
 use Rattle.moves.proofs.Laws.{over-length}
 use Rattle.seek.specs.Seek.{held, Good, Within, recordAt, span, spanOf}
-use Rattle.seek.specs.Below.{record-kind}
-use Rattle.seek.specs.Laws.{Stands, found, missing}
+use Rattle.seek.proofs.Below.{record-kind}
+use Rattle.seek.proofs.Laws.{Stands, found, missing}
 use Rattle.seek.specs.declared.Span as Span
 use Rattle.terms.specs.Levels as Levels
 use Rattle.search.specs.Nodes.{checked}
-use Rattle.search.specs.Laws.{tree-then, tree-refused}
+use Rattle.search.proofs.Laws.{tree-then, tree-refused}
 use Rattle.search.specs.declared.CheckedTree as CheckedTree
 use Rattle.prunings.specs.Prune.{Laid, Compacted, kept}
 use Rattle.prunings.specs.Words.{compact-start, compact-skip, compact-keep, below-within, atoms-gap, atoms-laid, atoms-removed}

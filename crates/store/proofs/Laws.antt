@@ -1,86 +1,73 @@
--- Twelve words as a record: what `goodRecord` asks of them at each kind. Assumes nothing.
-use Prim.Native.Nat.{ℕ, zero, suc, _-_, _≤_}
-use mathlib.Core.Path.{_≡_, refl, sym, _∙_}
-use mathlib.Core.Bool.{Bool, true, false, _&&_, false≢true, and-false, and-true, and-assoc}
-use mathlib.Core.List.{List, [], _∷_}
+-- What callers of `check` learn: the machine that a good store holds, and the answers that a refused one gives. Assumes nothing.
+use Prim.Native.Nat.{ℕ}
+use mathlib.Core.Path.{_≡_, refl, sym, ap, _∙_}
+use mathlib.Core.Bool.{Bool, true, false}
+use mathlib.Core.List.{List}
 use native.Mathlib.Omega.{arith}
-use lib.ListN.{length, getD, take, drop, replicate}
-use lib.Dec.{leb, eqb}
-use borrow.Author.Tests.{eq-eqb, eqb-true, leb-true, leb-false}
-use Rattle.machine.specs.Lists.{all, same}
-use Rattle.laws.specs.Lists.{and-both}
-use Rattle.machine.specs.Text.{chainId, insertionCode, conformerName, alternativeLocation, atomName, storedBy, absentOr}
-use Rattle.machine.specs.Record.{Words, words, kind, finite, fieldsOf, goodValues, goodFields, goodRecord}
+use lib.ListN.{length}
+use Rattle.machine.specs.Answer.{Result, ok, refused, _>>_, need, editedNumbers, foundNumbers, lookedUpNumbers}
+use Rattle.machine.specs.Text.{Optional}
+use Rattle.machine.specs.Record.{Words}
+use Rattle.machine.specs.Store.{Machine, stored, goodLength, recordsOf, inOrder, goodLayout, group, readStore}
+use Rattle.machine.specs.Find.{hitsOf, findRun}
+use Rattle.machine.specs.Edit.{Change, stepBy}
+use Rattle.machine.specs.Lookup.{lookupRun}
+use Rattle.machine.specs.declared.Refusal.{Refusal}
+use Rattle.machine.specs.declared.Refusal.the-variants.{BadLength, BrokenLayout}
+use Rattle.machine.specs.declared.Edited as Edited
+use Rattle.machine.specs.declared.Found as Found
+use Rattle.machine.specs.declared.LookedUp as LookedUp
+use Rattle.laws.specs.Ordered.{flats-group}
+use Rattle.seek.specs.Seek.{atomRecords}
+use Rattle.seek.proofs.Laws.{atoms-stored}
+use Rattle.store.specs.Store.{checkedBy}
+use Rattle.store.specs.declared.Checked.the-variants.{Good, Refused}
 
--- ---- twelve words
+-- records in order have as many atoms as the machine that they group to
+pub atoms-grouped : (rs : List Words) → inOrder 0 rs ≡ true → atomRecords rs ≡ stored (group 4 rs)
+atoms-grouped rs o = ap atomRecords (sym (flats-group rs o)) ∙ atoms-stored (group 4 rs)
 
-peel : (P : Words → Type 0) (n : ℕ) → ((a : ℕ) (r : Words) → length r ≡ n → P (a ∷ r)) → (r : Words) → length r ≡ suc n → P r
-peel P n f [] h = absurd (omega arith)
-peel P n f (a ∷ r) h = f a r (omega arith)
+-- ---- a good store
 
-none : (P : Words → Type 0) → P [] → (r : Words) → length r ≡ 0 → P r
-none P p [] h = p
-none P p (a ∷ r) h = absurd (omega arith)
+-- w holds a machine of n atoms
+pub record Held (w : List ℕ) (n : ℕ) : Type 0 where
+  pub read : readStore w ≡ ok (group 4 (recordsOf w))
+  pub atoms : n ≡ stored (group 4 (recordsOf w))
 
--- what holds of every twelve words written out holds of a list of length 12
-twelve : (P : Words → Type 0) → ((a b c d e f g h i j k l : ℕ) → P (a ∷ b ∷ c ∷ d ∷ e ∷ f ∷ g ∷ h ∷ i ∷ j ∷ k ∷ l ∷ [])) → (r : Words) → length r ≡ 12 → P r
-twelve P p =
-    peel P 11 λ a. peel _ 10 λ b. peel _ 9 λ c. peel _ 8 λ d. peel _ 7 λ e. peel _ 6 λ f. peel _ 5 λ g. peel _ 4 λ h. peel _ 3 λ i. peel _ 2 λ j. peel _ 1 λ k. peel _ 0 λ l. none _ (p a b c d e f g h i j k l)
-
-abbrev zeros : List ℕ
-zeros = replicate 9 0
-
-pub unnamed-zero : (r : Words) → length r ≡ 12 → eqb (getD r 3 0) 0 && eqb (getD r 4 0) 0 && eqb (getD r 5 0) 0 && eqb (getD r 6 0) 0 && eqb (getD r 7 0) 0 && eqb (getD r 8 0) 0 && eqb (getD r 9 0) 0 && eqb (getD r 10 0) 0 && eqb (getD r 11 0) 0 ≡ same (drop 3 r) zeros
-unnamed-zero = twelve _ (λ a b c d e f g h i j k l. simp (and-assoc, and-true))
-
-pub finite-words : (r : Words) → length r ≡ 12 → finite (getD r 3 0) && finite (getD r 4 0) && finite (getD r 5 0) && finite (getD r 6 0) && finite (getD r 7 0) ≡ all finite (take 5 (drop 3 r))
-finite-words = twelve _ (λ a b c d e f g h i j k l. simp (and-assoc, and-true))
-
--- ---- a record of each kind
-
-eqb-same : (x : ℕ) → eqb x x ≡ true
-eqb-same x = eq-eqb x x refl
-
-pub atom-record : (r : Words) → length r ≡ 12 →
-    eqb (getD r 0 0) 5 && eqb (getD r 11 0) 0 && storedBy atomName (getD r 2 0) && all finite (take 5 (drop 3 r)) && leb (getD r 8 0) 118 && leb (getD r 10 0) 1 ≡ goodRecord 0 r
-unfolding goodRecord words fieldsOf goodFields goodValues
-atom-record = twelve _ (λ a b c d e f g h i j k l. simp (eqb-same, and-true, and-assoc))
-
-pub conformer-record : (r : Words) → length r ≡ 12 → kind r ≡ 4 →
-    same (drop 3 r) zeros && storedBy conformerName (getD r 1 0) && absentOr alternativeLocation (getD r 2 0) ≡ goodRecord (5 - kind r) r
-unfolding goodRecord words fieldsOf goodFields
-conformer-record = twelve _ (λ a b c d e f g h i j k l q. rw q (simp (eqb-same, and-assoc)))
-
-pub residue-record : (r : Words) → length r ≡ 12 → kind r ≡ 3 → same (drop 3 r) zeros && absentOr insertionCode (getD r 2 0) ≡ goodRecord (5 - kind r) r
-unfolding goodRecord words fieldsOf goodFields
-residue-record = twelve _ (λ a b c d e f g h i j k l q. rw q (simp eqb-same))
-
-pub chain-record : (r : Words) → length r ≡ 12 → kind r ≡ 2 → eqb (getD r 2 0) 0 && same (drop 3 r) zeros && storedBy chainId (getD r 1 0) ≡ goodRecord (5 - kind r) r
-unfolding goodRecord words fieldsOf goodFields
-chain-record = twelve _ (λ a b c d e f g h i j k l q. rw q (simp eqb-same))
-
-pub model-record : (r : Words) → length r ≡ 12 → kind r ≡ 1 → eqb (getD r 2 0) 0 && same (drop 3 r) zeros ≡ goodRecord (5 - kind r) r
-unfolding goodRecord words fieldsOf goodFields
-model-record = twelve _ (λ a b c d e f g h i j k l q. rw q (simp (eqb-same, and-true)))
-
-pub atom-kind : (r : Words) → goodRecord 0 r ≡ true → kind r ≡ 5
-unfolding goodRecord words fieldsOf
-atom-kind [] h = absurd (false≢true h)
-atom-kind (a ∷ r) h = eqb-true a 5 (and-both (eqb a 5) _ (and-both _ _ h .0) .0)
-
--- 5 - 0 is no level
-pub no-record : (r : Words) → kind r ≤ 4 → (kind r ≡ 4 → ⊥) → (kind r ≡ 3 → ⊥) → (kind r ≡ 2 → ⊥) → (kind r ≡ 1 → ⊥) → false ≡ goodRecord (5 - kind r) r
-unfolding goodRecord goodFields
-no-record r most b c d e =
-    let z : 5 - kind r ≡ 5 = omega arith in
-    rw z (sym (and-false (same r (words 5 (fieldsOf 5 r)))))
-
-pub good-low : (r : Words) → kind r ≤ 4 → goodRecord (5 - kind r) r ≡ true → 1 ≤ kind r
-good-low r most g = go (leb 1 (kind r)) refl
+pub good-store : {n : ℕ} (w : List ℕ) → Good n ≡ checkedBy (readStore w) → Held w n
+unfolding readStore
+good-store {n} w h = record { read = go (goodLength (length w)) (goodLayout w) h .0; atoms = go (goodLength (length w)) (goodLayout w) h .1 }
   where
-    go : (b : Bool) → leb 1 (kind r) ≡ b → 1 ≤ kind r
-    go true q = leb-true 1 (kind r) q
-    go false q =
-        let l = leb-false 1 (kind r) q in
-        let no : (k : ℕ) → 1 ≤ k → kind r ≡ k → ⊥ = λ k h e. omega arith in
-        absurd (false≢true (no-record r most (no 4 (omega arith)) (no 3 (omega arith)) (no 2 (omega arith)) (no 1 (omega arith)) ∙ g))
+    m : Machine
+    m = group 4 (recordsOf w)
+
+    go : (a b : Bool) → Good n ≡ checkedBy (need a BadLength >> (need b BrokenLayout >> ok m)) → ((need a BadLength >> (need b BrokenLayout >> ok m)) ≡ ok m) × (n ≡ stored m)
+    go true true q = (refl, cc)
+    go true false q = let z : _≡_ {A = ℕ} 0 1 = cc in absurd (omega arith)
+    go false b q = let z : _≡_ {A = ℕ} 0 1 = cc in absurd (omega arith)
+
+-- ---- a refused store
+
+refused-read : {c : Refusal} (x : Result Machine) → Refused c ≡ checkedBy x → x ≡ refused c
+refused-read (ok m) q = let z : _≡_ {A = ℕ} 0 1 = cc in absurd (omega arith)
+refused-read (refused d) q = cc
+
+module _ {c : Refusal} (w : List ℕ) (h : Refused c ≡ checkedBy (readStore w)) where
+  pub refused-store : readStore w ≡ refused c
+  refused-store = refused-read (readStore w) h
+
+  pub refused-hits : (t : List ℕ) → hitsOf w t ≡ refused c
+  unfolding hitsOf
+  refused-hits t = rw refused-store
+
+  pub refused-find : (t out : List ℕ) → findRun w t out ≡ (foundNumbers (Found.the-variants.Refused c), out)
+  unfolding findRun
+  refused-find t out = rw (refused-hits t)
+
+  pub refused-step : (step : Machine → Result Change) → stepBy w step ≡ (editedNumbers (Edited.the-variants.Refused c), w)
+  unfolding stepBy
+  refused-step step = rw refused-store
+
+  pub refused-lookup : (serial : ℕ) (location : Optional) → lookupRun w serial location ≡ lookedUpNumbers (LookedUp.the-variants.Refused c)
+  unfolding lookupRun
+  refused-lookup serial location = rw refused-store

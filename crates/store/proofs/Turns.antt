@@ -9,28 +9,22 @@ use native.Mathlib.Nat.{add-zero, zero-add, add-comm}
 use lib.ListN.{length, getD, take, drop, replicate, drop-of-length-le, length-take, length-drop, length-replicate}
 use lib.Seq.{drop-cons, drop-drop, getD-take, getD-drop}
 use lib.Dec.{leb, eqb}
-use lib.IntN.{ℤ}
-use lib.Ieee.{Float, binary64, ofBits}
-use mir.Syntax.{w64}
-use mir.Val.{SFits, toZ, ofZ}
-use mir.Facts.{toZ-ofZ}
 use borrow.Author.Tests.{eq-eqb, ne-eqb, eqb-true, eqb-false, le-leb, lt-leb, leb-true, leb-false}
 use Rattle.machine.specs.Lists.{all}
 use Rattle.machine.specs.Answer.{openedNumbers}
-use Rattle.machine.specs.Record.{Words, kind, fieldsOf, goodRecord, readOut}
+use Rattle.machine.specs.Record.{Words, kind, goodRecord}
 use Rattle.machine.specs.Store.{goodLength, end, gap, chunks, recordsOf, inOrder, goodLayout, stored, group, readStore, openRun}
 use Rattle.machine.specs.declared.Refusal.the-variants.{BadLength, BrokenLayout}
-use Rattle.machine.specs.declared.AtomRec.{AtomRec}
 use Rattle.machine.specs.declared.Opened as Opened
 use Rattle.laws.specs.Layout.{parts-store}
+use Rattle.records.proofs.Laws.{atom-kind, good-low}
 use Rattle.moves.specs.Over.{over}
 use Rattle.seek.specs.Seek.{atomRecords}
-use Rattle.seek.specs.Below.{chunks-add}
+use Rattle.seek.proofs.Below.{chunks-add}
 use Rattle.store.specs.Store.{checkedBy, counted, trailingAtoms}
-use Rattle.store.specs.Laws.{atoms-grouped}
+use Rattle.store.proofs.Laws.{atoms-grouped}
 use Rattle.store.specs.declared.Checked.{Checked}
 use Rattle.store.specs.declared.Checked.the-variants.{Good, Refused}
-use Rattle.store.proofs.Laws.{atom-kind, good-low}
 
 -- ---- zeros
 
@@ -409,17 +403,3 @@ pub open-done : (w s : List ℕ) → 1 ≤ length w → length w ≤ 1200001 →
 unfolding openRun
 open-done w s h g e =
     rw (fair-length (length w) h g, e, over-whole w (replicate (length w) 0) (length-replicate (length w) 0))
-
--- ---- an atom
-
-module _ (w : List ℕ) (at : ℕ) where
-  -- of the twelve as the code takes them
-  abbrev word : ℕ → ℕ
-  word j = getD (take (at + 12 - at) (drop at w)) j 0
-
-  pub atom-read : {x y z o b : Float} {c : ℤ} → x ≡ ofBits binary64 (word 3) → y ≡ ofBits binary64 (word 4) → z ≡ ofBits binary64 (word 5) → o ≡ ofBits binary64 (word 6) → b ≡ ofBits binary64 (word 7) → c ≡ toZ w64 (word 9) → SFits w64 c →
-      _≡_ {A = AtomRec} (record { serial = word 1; name = word 2; x = x; y = y; z = z; occupancy = o; «b_factor» = b; element = word 8; charge = toZ w64 (ofZ w64 c); hetero = eqb (word 10) 1 }) (readOut (fieldsOf zero (take 12 (drop at w))))
-  unfolding readOut fieldsOf
-  atom-read e₁ e₂ e₃ e₄ e₅ e₆ k =
-      let t : at + 12 - at ≡ 12 = omega arith in
-      rw (toZ-ofZ k, e₁, e₂, e₃, e₄, e₅, e₆, t)

@@ -1,3 +1,1 @@
 pub mod Store
-pub mod Laws
-pub mod Steps

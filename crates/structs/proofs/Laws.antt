@@ -39,7 +39,7 @@ use Rattle.machine.specs.declared.Refusal.{Refusal}
 use Rattle.machine.specs.declared.Edited as Edited
 use Rattle.machine.specs.declared.LookedUp as LookedUp
 use Rattle.store.specs.Store.{checkedBy}
-use Rattle.store.specs.Laws.{refused-step, refused-lookup}
+use Rattle.store.proofs.Laws.{refused-step, refused-lookup}
 use Rattle.store.specs.declared.Checked as Checked
 use Rattle.seek.specs.Seek.{held, Good}
 use Rattle.removals.specs.Removal.{removal}

@@ -257,7 +257,7 @@ fn atom_value(t: Term, words: &[u64], number: u64, known: bool, atoms: &[u64]) -
     ensures { λ r. ⌜ ((others : List ℕ) → r ≡ Query.termValue (record { residues = others; atoms = now (atoms .entry) }) (atAtom (Query.onlyIf known (some (fieldsOf 0 (recordAt (now (words .entry)) number))))) t) ⌝ }
 {
     if known {
-        optional_matches_atom(t, store::read_atom(words, number as usize), atoms)
+        optional_matches_atom(t, records::read_atom(words, number as usize), atoms)
     } else {
         Tri::Undecided
     }

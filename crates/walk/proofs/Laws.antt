@@ -1,5 +1,5 @@
 -- The laws that the proofs of the functions apply. Assumes nothing.
-use Prim.Native.Nat.{ℕ, zero, suc, _+_, _-_, _*_, _/_, _≤_, _<_}
+use Prim.Native.Nat.{ℕ, suc, _+_, _-_, _*_, _/_, _≤_, _<_}
 use mathlib.Core.Path.{_≡_, refl, sym, ap, _∙_}
 use mathlib.Core.Bool.{Bool, true, false, cond}
 use mathlib.Core.List.{List, [], _∷_, map, append-assoc}
@@ -9,13 +9,12 @@ use lib.Seq.{sets-eq}
 use lib.Dec.{eqb, leb}
 use borrow.Author.Tests.{eq-eqb, ne-eqb, le-leb, leb-true, leb-false, lt-leb}
 use Rattle.machine.specs.Lists.{keep, those}
-use Rattle.machine.specs.Answer.{Result, ok, refused, _>>_, foundNumbers}
+use Rattle.machine.specs.Answer.{ok, foundNumbers}
 use Rattle.machine.specs.Store.{Machine, records, stored, readStore}
 use Rattle.machine.specs.Kleene.{isHit}
 use Rattle.machine.specs.Query.{Names, treeValue, termValue, readTree, tables}
 use Rattle.machine.specs.Find.{Site, atomsOf, hitsIn, hitsOf, hitWords, written, findRun}
 use Rattle.machine.specs.declared.RecordNumbers.{RecordNumbers}
-use Rattle.machine.specs.declared.Node.{Node}
 use Rattle.machine.specs.declared.Refusal.{Refusal}
 use Rattle.machine.specs.declared.Refusal.the-variants.{ShortOutput}
 use Rattle.machine.specs.declared.Found as Found
@@ -24,63 +23,26 @@ use Rattle.laws.specs.Numbers.{five-numbers, atoms-stored}
 use Rattle.moves.specs.Over.{over}
 use Rattle.moves.proofs.Laws.{over-length, over-none, over-over}
 use Rattle.seek.specs.Seek.{between, held}
-use Rattle.seek.specs.Below.{record-kind, between-cons}
-use Rattle.seek.specs.Laws.{whole-within}
+use Rattle.seek.proofs.Below.{record-kind, between-cons}
+use Rattle.seek.proofs.Laws.{whole-within}
 use Rattle.store.specs.Store.{checkedBy}
-use Rattle.store.specs.Laws.{Held, good-store, refused-find}
+use Rattle.store.proofs.Laws.{Held, good-store, refused-find}
 use Rattle.store.specs.declared.Checked as Checked
 use Rattle.search.specs.Nodes.{checked}
-use Rattle.search.specs.Laws.{tree-then, tree-refused}
+use Rattle.search.proofs.Laws.{tree-then, tree-refused}
 use Rattle.search.specs.declared.CheckedTree as CheckedTree
 use Rattle.terms.specs.Levels.{numbersIn, Inside}
-use Rattle.walk.specs.Walk.{five, pick, enteredAt, valueBy, Sure, Turned, foundIn, wrote, Levelled, UpTo, Ready, Asked, start}
-use Rattle.walk.specs.declared.State.{State}
-use Rattle.walk.specs.Laws.{whole-levels, found-whole}
-use Rattle.walk.proofs.Turns.{sure-entered, found-end, found-deep, found-next}
-
--- ---- the numbers at hand
-
-up-pick : (n : ℕ) (b : Bool) (x y : RecordNumbers) → UpTo n x → UpTo n y → UpTo n (pick b x y)
-up-pick n true x y u v = u
-up-pick n false x y u v = v
-
-up-entered : (k n : ℕ) (at : RecordNumbers) → UpTo n at → UpTo n (enteredAt k n at)
-unfolding enteredAt
-up-entered k n at u =
-    up-pick n (eqb k 1) _ _ (record { model = omega arith; chain = u .chain; residue = u .residue; conformer = u .conformer; atom = u .atom })
-    (up-pick n (eqb k 2) _ _ (record { model = u .model; chain = omega arith; residue = u .residue; conformer = u .conformer; atom = u .atom })
-    (up-pick n (eqb k 3) _ _ (record { model = u .model; chain = u .chain; residue = omega arith; conformer = u .conformer; atom = u .atom })
-    (up-pick n (eqb k 4) _ _ (record { model = u .model; chain = u .chain; residue = u .residue; conformer = omega arith; atom = u .atom })
-    (record { model = u .model; chain = u .chain; residue = u .residue; conformer = u .conformer; atom = omega arith }))))
-
-up-next : (n : ℕ) (at : RecordNumbers) → UpTo n at → UpTo (n + 1) at
-up-next n at u =
-    record { model = omega (arith, u .model); chain = omega (arith, u .chain); residue = omega (arith, u .residue); conformer = omega (arith, u .conformer); atom = omega (arith, u .atom) }
+use Rattle.descent.specs.Descent.{five, start, UpTo, valueBy, Sure, Turned}
+use Rattle.descent.specs.declared.State.{State}
+use Rattle.descent.proofs.Sites.{enteredAt, up-entered, up-next, five-is, entered-five}
+use Rattle.descent.proofs.Turns.{sure-entered}
+use Rattle.walk.specs.Walk.{foundIn, wrote, Levelled, Ready, Asked}
+use Rattle.walk.proofs.Whole.{whole-levels, found-whole}
+use Rattle.walk.proofs.Turns.{found-end, found-deep, found-next}
 
 depth-high : (k : ℕ) → k ≤ 5 → (b : Bool) → cond b k (k - 1) ≤ 5
 depth-high k h true = h
 depth-high k h false = omega arith
-
--- ---- five numbers in a list
-
-five-is : (l : List ℕ) → length l ≡ 5 → l ≡ five (numbersIn l)
-five-is [] h = absurd (omega arith)
-five-is (a ∷ []) h = absurd (omega arith)
-five-is (a ∷ b ∷ []) h = absurd (omega arith)
-five-is (a ∷ b ∷ c ∷ []) h = absurd (omega arith)
-five-is (a ∷ b ∷ c ∷ d ∷ []) h = absurd (omega arith)
-five-is (a ∷ b ∷ c ∷ d ∷ e ∷ []) h = refl
-five-is (a ∷ b ∷ c ∷ d ∷ e ∷ f ∷ l) h = absurd (omega arith)
-
-entered-five : (k n : ℕ) (at : RecordNumbers) → 1 ≤ k → k ≤ 5 → numbersIn (set (five at) (k - 1) n) ≡ enteredAt k n at
-unfolding enteredAt
-entered-five zero n at l h = absurd (omega arith)
-entered-five (suc zero) n at l h = refl
-entered-five (suc (suc zero)) n at l h = refl
-entered-five (suc (suc (suc zero))) n at l h = refl
-entered-five (suc (suc (suc (suc zero)))) n at l h = refl
-entered-five (suc (suc (suc (suc (suc zero))))) n at l h = refl
-entered-five (suc (suc (suc (suc (suc (suc k)))))) n at l h = absurd (omega arith)
 
 -- ---- counting
 

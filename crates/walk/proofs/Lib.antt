@@ -1,2 +1,4 @@
+pub mod Pruned
+pub mod Whole
 pub mod Turns
 pub mod Laws

@@ -1,4 +1,2 @@
 pub mod Sieve
-pub mod Pruned
 pub mod Walk
-pub mod Laws

@@ -4,97 +4,19 @@ use machine::Found;
 use machine::Record;
 use machine::RecordNumbers;
 use machine::Refusal;
-use machine::Tri;
 use search::CheckedTree;
 use store::Checked;
 ghost use mathlib.Core.Path.{_≡_};
-ghost use Prim.Native.Nat.{_+_, _-_, _*_, _≤_};
-ghost use lib.ListN.{length, set};
+ghost use Prim.Native.Nat.{_+_, _*_, _≤_};
+ghost use lib.ListN.{length};
 ghost use lib.Dec.{leb};
 ghost use Rattle.machine.specs.Answer.{foundNumbers};
-ghost use Rattle.machine.specs.Query.{readTree};
 ghost use Rattle.machine.specs.Find.{hitsIn, findRun};
 ghost use Rattle.moves.specs.Over.{over};
 ghost use Rattle.seek.specs.Seek.{held};
-ghost use Rattle.terms.specs.Levels.{numbersIn, Inside};
-ghost use Rattle.search.specs.Nodes.{checked, lowestFrom};
-ghost use Rattle.search.specs.declared.CheckedTree.the-variants.{Good};
-ghost use Rattle.walk.specs.Walk.{five, start as startAt, valueBy, Sure, Turned, foundIn, wrote, Ready, Asked};
-
-// ---- a turn
-
-fn start() -> RecordNumbers
-    ensures { λ r. ⌜ r ≡ startAt ⌝ }
-{
-    RecordNumbers {
-        model: 0,
-        chain: 0,
-        residue: 0,
-        conformer: 0,
-        atom: 0,
-    }
-}
-
-// The five numbers, from the model's down: the record that was last seen of each kind.
-fn numbers_of(at: RecordNumbers) -> [u64; 5]
-    ensures { λ r. ⌜ r ≡ five at ⌝ }
-{
-    [at.model, at.chain, at.residue, at.conformer, at.atom]
-}
-
-// Record n of a kind is the last that was seen.
-fn enter(at: &mut [u64; 5], kind: u64, n: u64)
-    requires { ⌜ (1 ≤ kind) × (kind ≤ 5) ⌝ }
-    ensures { λ _. ⌜ now (at .exit) ≡ set (now (at .entry)) (kind - 1) n ⌝ }
-{
-    at[kind as usize - 1] = n;
-}
-
-// Beside the last records that were seen: how many of them the next one may stand under, and the kind of one at which the
-// tree is true, so that what is below needs no look. No record is of a kind above 5, which stands for none.
-struct State {
-    live: u64,
-    sure: u64,
-}
-
-impl State {
-    fn new(live: u64, sure: u64) -> State
-        ensures { λ r. ⌜ r ≡ record { live = live; sure = sure } ⌝ }
-    {
-        State { live, sure }
-    }
-}
-
-// After a record that is entered. What is below one where the tree is false is too deep then; "Undecided counts as a hit".
-// An atom is a hit where `live` is 5. A tree that asks for none of the kinds that are known is undecided, with no look.
-fn turn(
-    store: &[u64],
-    tree: &[u64],
-    at: &[u64; 5],
-    low: u64,
-    kind: u64,
-    lowest: u64,
-    sure: u64,
-    residues: &[u64],
-    atoms: &[u64],
-) -> State
-    requires { ⌜ (checked (readTree (now tree)) ≡ Good) × Inside (now store) (numbersIn (now at)) × (1 ≤ kind) × Sure (valueBy (now store) (now tree) low (now residues) (now atoms) (numbersIn (now at))) sure kind × (lowest ≡ lowestFrom 5 (now tree)) ⌝ }
-    ensures { λ r. ⌜ Turned (valueBy (now (store .entry)) (now (tree .entry)) low (now (residues .entry)) (now (atoms .entry)) (numbersIn (now (at .entry)))) kind r ⌝ }
-{
-    if sure < kind {
-        return State::new(kind, sure);
-    }
-    if kind < lowest {
-        return State::new(kind, Record::ATOM);
-    }
-    let above = kind - 1;
-    let v = search::value(tree, store, at, low, kind, residues, atoms);
-    match v {
-        Tri::False => State::new(above, Record::ATOM),
-        Tri::True => State::new(kind, kind),
-        Tri::Undecided => State::new(kind, Record::ATOM),
-    }
-}
+ghost use Rattle.terms.specs.Levels.{numbersIn};
+ghost use Rattle.descent.specs.Descent.{five};
+ghost use Rattle.walk.specs.Walk.{foundIn, wrote, Ready, Asked};
 
 // ---- a pass
 
@@ -114,7 +36,7 @@ pub fn count_in(
     ensures { λ r. ⌜ r ≡ length (foundIn (now (store .entry)) from end (now (tree .entry)) low depth first (now (residues .entry)) (now (atoms .entry))) ⌝ }
 {
     let lowest = search::lowest_kind(tree);
-    let mut at = numbers_of(first);
+    let mut at = descent::numbers_of(first);
     let mut live = depth;
     let mut sure: u64 = Record::ATOM;
     let mut found: u64 = 0;
@@ -124,8 +46,8 @@ pub fn count_in(
         if live + 1 < kind {
             n += 1;
         } else {
-            enter(&mut at, kind, n as u64);
-            let next = turn(store, tree, &at, low, kind, lowest, sure, residues, atoms);
+            descent::enter(&mut at, kind, n as u64);
+            let next = descent::turn(store, tree, &at, low, kind, lowest, sure, residues, atoms);
             live = next.live;
             sure = next.sure;
             if live == Record::ATOM {
@@ -169,7 +91,7 @@ pub fn find_in(
     ensures { λ r. ⌜ (r, now (out .exit)) ≡ wrote (foundIn (now (store .entry)) from end (now (tree .entry)) low depth first (now (residues .entry)) (now (atoms .entry))) (now (out .entry)) ⌝ }
 {
     let lowest = search::lowest_kind(tree);
-    let mut at = numbers_of(first);
+    let mut at = descent::numbers_of(first);
     let mut live = depth;
     let mut sure: u64 = Record::ATOM;
     let mut found: u64 = 0;
@@ -179,8 +101,8 @@ pub fn find_in(
         if live + 1 < kind {
             n += 1;
         } else {
-            enter(&mut at, kind, n as u64);
-            let next = turn(store, tree, &at, low, kind, lowest, sure, residues, atoms);
+            descent::enter(&mut at, kind, n as u64);
+            let next = descent::turn(store, tree, &at, low, kind, lowest, sure, residues, atoms);
             live = next.live;
             sure = next.sure;
             if live == Record::ATOM {
@@ -214,7 +136,18 @@ fn enough(
     }
     let end = seek::record_count(store);
     let low = Record::MODEL;
-    count_in(store, 0, end, tree, low, 0, start(), residues, atoms) <= room
+    count_in(
+        store,
+        0,
+        end,
+        tree,
+        low,
+        0,
+        descent::start(),
+        residues,
+        atoms,
+    )
+        <= room
 }
 
 // A store of that many atoms, and a tree. "10 output shorter than 5 words per hit" leaves the output as it was.
@@ -228,7 +161,18 @@ fn find_checked(store: &[u64], tree: &[u64], total: u64, out: &mut [u64]) -> Fou
     if enough(store, tree, total, room, &residues, &atoms) {
         let end = seek::record_count(store);
         let low = Record::MODEL;
-        let found = find_in(store, 0, end, tree, low, 0, start(), &residues, &atoms, out);
+        let found = find_in(
+            store,
+            0,
+            end,
+            tree,
+            low,
+            0,
+            descent::start(),
+            &residues,
+            &atoms,
+            out,
+        );
         Found::Hits(found)
     } else {
         Found::Refused(Refusal::ShortOutput)

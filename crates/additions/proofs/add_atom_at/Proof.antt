@@ -2,7 +2,7 @@
 use mathlib.Core.Path.{sym, _∙_}
 use Rattle.machine.specs.Text.{optionalOf}
 use Rattle.additions.proofs.Laws.{atom-nowhere, atom-unnamed, atom-bad, atom-ready}
-use Rattle.seek.specs.Laws.{at-span}
+use Rattle.seek.proofs.Laws.{at-span}
 use borrow.Author.Needs.{needs}
 use Rattle.additions.proofs.add_atom_at.Statement.{statement}
 use Rattle.additions.proofs.add_atom_at.Tie as tie

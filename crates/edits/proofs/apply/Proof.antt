@@ -1,6 +1,6 @@
 -- `edits::apply` meets its contract. Assumes nothing.
 use borrow.Author.Needs.{needs}
-use Rattle.store.specs.Steps.{good}
+use Rattle.store.proofs.Steps.{good}
 use Rattle.edits.proofs.Lists.{applied-good, applied-refused}
 use Rattle.edits.proofs.apply.Statement.{statement}
 use Rattle.edits.proofs.apply.Tie as tie

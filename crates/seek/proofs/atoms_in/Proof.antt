@@ -1,6 +1,6 @@
 -- `seek::atoms_in` meets its contract. The loop keeps `Counted`, and the records left fall. Assumes nothing.
 use Prim.Native.Nat.{_-_}
-use Rattle.seek.proofs.Laws.{Counted, count-begin, count-one, count-none, count-end}
+use Rattle.seek.proofs.Turns.{Counted, count-begin, count-one, count-none, count-end}
 use borrow.Author.Needs.{needs}
 use Rattle.seek.proofs.atoms_in.Statement.{statement}
 use Rattle.seek.proofs.atoms_in.Tie as tie

@@ -1,6 +1,6 @@
 -- `seek::child` meets its contract, by what `start_of` and `end_of` ensure. Assumes nothing.
 use native.Mathlib.Omega.{arith}
-use Rattle.seek.proofs.Laws.{after-child, child-missing, child-is}
+use Rattle.seek.proofs.Turns.{after-child, child-missing, child-is}
 use borrow.Author.Needs.{needs}
 use Rattle.seek.proofs.child.Statement.{statement}
 use Rattle.seek.proofs.child.Tie as tie

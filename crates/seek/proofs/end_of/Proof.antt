@@ -1,6 +1,6 @@
 -- `seek::end_of` meets its contract. The loop keeps `Ran`, and the records left fall. Assumes nothing.
 use Prim.Native.Nat.{_-_}
-use Rattle.seek.proofs.Laws.{Ran, ran-begin, ran-on, ran-stop, ran-end}
+use Rattle.seek.proofs.Turns.{Ran, ran-begin, ran-on, ran-stop, ran-end}
 use borrow.Author.Needs.{needs}
 use Rattle.seek.proofs.end_of.Statement.{statement}
 use Rattle.seek.proofs.end_of.Tie as tie

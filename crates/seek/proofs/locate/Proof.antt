@@ -2,7 +2,7 @@
 use Prim.Native.Nat.{_-_}
 use native.Mathlib.Omega.{arith}
 use lib.ListN.{length}
-use Rattle.seek.proofs.Laws.{Located, locate-begin, located-within, located-below, located-on, located-missing, located-end}
+use Rattle.seek.proofs.Turns.{Located, locate-begin, located-within, located-below, located-on, located-missing, located-end}
 use borrow.Author.Needs.{needs}
 use Rattle.seek.proofs.locate.Statement.{statement}
 use Rattle.seek.proofs.locate.Tie as tie

@@ -1,5 +1,5 @@
 -- `seek::record_count` meets its contract: a good store has a trailer, which ends its records. Assumes nothing.
-use Rattle.seek.proofs.Laws.{good-length, count-is}
+use Rattle.seek.proofs.Turns.{good-length, count-is}
 use borrow.Author.Needs.{needs}
 use Rattle.seek.proofs.record_count.Statement.{statement}
 use Rattle.seek.proofs.record_count.Tie as tie

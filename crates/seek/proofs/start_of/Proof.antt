@@ -1,6 +1,6 @@
 -- `seek::start_of` meets its contract. The loop keeps `Sought`, and the records left fall. Assumes nothing.
 use Prim.Native.Nat.{_-_}
-use Rattle.seek.proofs.Laws.{Sought, sought-begin, sought-pass, sought-next, sought-low, sought-here, sought-out}
+use Rattle.seek.proofs.Turns.{Sought, sought-begin, sought-pass, sought-next, sought-low, sought-here, sought-out}
 use borrow.Author.Needs.{needs}
 use Rattle.seek.proofs.start_of.Statement.{statement}
 use Rattle.seek.proofs.start_of.Tie as tie

@@ -1,6 +1,6 @@
 -- `structs::chain::remove_residue_by_id` meets its contract. Assumes nothing.
 use borrow.Author.Needs.{needs}
-use Rattle.store.specs.Steps.{good}
+use Rattle.store.proofs.Steps.{good}
 use Rattle.structs.proofs.Laws.{residue-by-id, refused-call}
 use Rattle.structs.proofs.chain.remove_residue_by_id.Statement.{statement}
 use Rattle.structs.proofs.chain.remove_residue_by_id.Tie as tie

@@ -1,6 +1,6 @@
 -- `structs::conformer::remove_atom_by_serial_number` meets its contract. Assumes nothing.
 use borrow.Author.Needs.{needs}
-use Rattle.store.specs.Steps.{good}
+use Rattle.store.proofs.Steps.{good}
 use Rattle.structs.proofs.Laws.{atom-by-serial, refused-call}
 use Rattle.structs.proofs.conformer.remove_atom_by_serial_number.Statement.{statement}
 use Rattle.structs.proofs.conformer.remove_atom_by_serial_number.Tie as tie

@@ -1,6 +1,6 @@
 -- `structs::model::add_atom` meets its contract. Assumes nothing.
 use borrow.Author.Needs.{needs}
-use Rattle.store.specs.Steps.{good}
+use Rattle.store.proofs.Steps.{good}
 use Rattle.structs.proofs.Laws.{atom-added, refused-call}
 use Rattle.structs.proofs.model.add_atom.Statement.{statement}
 use Rattle.structs.proofs.model.add_atom.Tie as tie

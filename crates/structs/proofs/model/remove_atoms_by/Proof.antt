@@ -1,6 +1,6 @@
 -- `structs::model::remove_atoms_by` meets its contract. Assumes nothing.
 use borrow.Author.Needs.{needs}
-use Rattle.store.specs.Steps.{good}
+use Rattle.store.proofs.Steps.{good}
 use Rattle.structs.proofs.Laws.{atoms-removed, refused-call}
 use Rattle.structs.proofs.model.remove_atoms_by.Statement.{statement}
 use Rattle.structs.proofs.model.remove_atoms_by.Tie as tie

@@ -1,6 +1,6 @@
 -- `structs::model::remove_empty` meets its contract. Assumes nothing.
 use borrow.Author.Needs.{needs}
-use Rattle.store.specs.Steps.{good}
+use Rattle.store.proofs.Steps.{good}
 use Rattle.structs.proofs.Laws.{empty-removed, refused-call}
 use Rattle.structs.proofs.model.remove_empty.Statement.{statement}
 use Rattle.structs.proofs.model.remove_empty.Tie as tie

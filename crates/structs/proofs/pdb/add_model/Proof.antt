@@ -1,6 +1,6 @@
 -- `structs::pdb::add_model` meets its contract. Assumes nothing.
 use borrow.Author.Needs.{needs}
-use Rattle.store.specs.Steps.{good}
+use Rattle.store.proofs.Steps.{good}
 use Rattle.structs.proofs.Laws.{model-added, refused-call}
 use Rattle.structs.proofs.pdb.add_model.Statement.{statement}
 use Rattle.structs.proofs.pdb.add_model.Tie as tie

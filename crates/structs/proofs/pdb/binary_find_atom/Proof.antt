@@ -1,6 +1,6 @@
 -- `structs::pdb::binary_find_atom` meets its contract. Assumes nothing.
 use borrow.Author.Needs.{needs}
-use Rattle.store.specs.Steps.{good}
+use Rattle.store.proofs.Steps.{good}
 use Rattle.structs.proofs.Laws.{looked-up, refused-looked-up}
 use Rattle.structs.proofs.pdb.binary_find_atom.Statement.{statement}
 use Rattle.structs.proofs.pdb.binary_find_atom.Tie as tie
