@@ -13,7 +13,7 @@ use lib.Dec.{eqb}
 use Rattle.machine.specs.Lists.{bind}
 use Rattle.machine.specs.Record.{Fields, Words, words, kind}
 use Rattle.machine.specs.Store.{Branch, Machine, flat, chunks}
-use Rattle.machine.specs.Edit.{NewAtom, Prepare, Which, first, last, pick, upsert, newAtom, intoChains, replaceAt}
+use Rattle.machine.specs.Edit.{Addition, Prepare, Which, first, last, pick, upsert, newAtom, intoChains, replaceAt}
 use Rattle.laws.specs.Lists.{All-map, bind-append}
 use Rattle.laws.specs.Grouped.{flats-kinds, chunks-length}
 use Rattle.laws.specs.Scan.{ends-branches}
@@ -206,7 +206,7 @@ module _ (h k : ℕ) (level : h + k ≡ 4) (low : 1 ≤ h) (key : Key) (p : Fiel
 -- ---- an atom in a model
 
 -- the three levels below a model
-pub puts-chains : (a : NewAtom) (p : Prepare) → Puts 2 3 (intoChains a p) (keysOf (p .chain) (a .residue) (a .code) (p .conformer) (a .location)) (column p (a .residue) (newAtom a p))
+pub puts-chains : (a : Addition) (p : Prepare) → Puts 2 3 (intoChains a p) (keysOf (p .chain) (a .residue) (a .code) (p .conformer) (a .location)) (column p (a .residue) (newAtom a p))
 unfolding words
 puts-chains a p =
     puts-level 2 2 refl (omega arith) _ _ _ _ _ _ (λ d. and-true (eqb (d .id) (p .chain)))

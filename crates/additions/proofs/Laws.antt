@@ -14,7 +14,8 @@ use Rattle.machine.specs.Answer.{Result, ok, refused, editedNumbers}
 use Rattle.machine.specs.Text.{Optional, chainId, insertionCode, conformerName, alternativeLocation, atomName, optional}
 use Rattle.machine.specs.Record.{Words, words, finite, goodValues}
 use Rattle.machine.specs.Store.{Branch, Machine, flat, records, stored, capacity, laid, layOut, recordsOf}
-use Rattle.machine.specs.Edit.{NewAtom, accept, prepare, intoChains, replaceAt, fits, addModel, addAtom, Change, stepBy}
+use Rattle.machine.specs.Edit.{Addition, addition, atomOf, accept, prepare, intoChains, replaceAt, fits, addModel, addAtom, Change, stepBy}
+use Rattle.machine.specs.declared.NewAtom.{NewAtom}
 use Rattle.machine.specs.declared.Prepared.{Prepared}
 use Rattle.machine.specs.declared.Prepared.the-variants.{Stored, Absent, Bad}
 use Rattle.machine.specs.declared.Name.{Name}
@@ -36,8 +37,7 @@ use Rattle.places.specs.Pick.{keysOf, spotIn, foundOf}
 use Rattle.places.specs.declared.Place as Place
 use Rattle.places.specs.declared.Spot as Spot
 use Rattle.places.proofs.Spans.{model-inside, model-span}
-use Rattle.additions.specs.Add.{columnWords, preparedOf, resultOf, given, named, atomOf, wordOf, put, intoModel}
-use Rattle.additions.specs.declared.NewAtom as Values
+use Rattle.additions.specs.Add.{columnWords, preparedOf, resultOf, named, wordOf, put, intoModel}
 use Rattle.additions.specs.declared.Names as Names
 use Rattle.additions.specs.declared.Word as Word
 use Rattle.additions.specs.declared.Readied as Readied
@@ -162,7 +162,7 @@ declined n p q r d e f = go n q (ap wordOf (sym d) ∙ sym e ∙ f)
     go AtomName Bad h = refl
 
 -- the first name that is bad, and all five
-module _ (a : NewAtom) where
+module _ (a : Addition) where
   pub bad-chain : accept ChainId (chainId (a .chain)) ≡ refused BadIdentifier → refused BadIdentifier ≡ prepare a
   unfolding prepare
   bad-chain e = rw e
@@ -202,7 +202,7 @@ all-good true true true false e f g = refl
 all-good true true true true false f g = refl
 all-good true true true true true f g = refl
 
-pub values-good : (v : Values.NewAtom) (a b c d e f : Bool)
+pub values-good : (v : NewAtom) (a b c d e f : Bool)
     → a ≡ finite (v .x) → b ≡ finite (v .y) → c ≡ finite (v .z) → d ≡ finite (v .occupancy) → e ≡ finite (v .«b_factor»)
     → f ≡ leb (v .element) 118
     → (((a && b) && c) && (d && e)) && f && leb (v .hetero) 1 ≡ goodValues (atomOf v 0)
@@ -246,11 +246,11 @@ module _ (w : List ℕ) (g : Good w) (serial x count : ℕ) (e : x ≡ capacity 
 -- ---- add_atom
 
 -- the new records, all four
-abbrev newColumn : Names.Names → ℕ → Values.NewAtom → List Words
+abbrev newColumn : Names.Names → ℕ → NewAtom → List Words
 newColumn n residue v = column (preparedOf n) residue (atomOf v (n .name))
 
 -- the words of the column's records from one on
-column-part : (n : Names.Names) (residue : ℕ) (v : Values.NewAtom) (x : ℕ) → x ≤ 4
+column-part : (n : Names.Names) (residue : ℕ) (v : NewAtom) (x : ℕ) → x ≤ 4
     → take (48 - 12 * x) (drop (12 * x) (columnWords n residue v)) ≡ concat (drop x (newColumn n residue v))
 unfolding words
 column-part n residue v x l =
@@ -261,7 +261,7 @@ column-part n residue v x l =
     rw d (take-all (48 - 12 * x) (concat (drop x col)) (omega arith))
 
 -- refusal 7 does not look at the name
-values-only : (v : Values.NewAtom) (name : ℕ) → goodValues (atomOf v name) ≡ goodValues (atomOf v 0)
+values-only : (v : NewAtom) (name : ℕ) → goodValues (atomOf v name) ≡ goodValues (atomOf v 0)
 unfolding goodValues
 values-only v name = refl
 
@@ -290,9 +290,9 @@ module _ (w : List ℕ) (g : Good w) (i start stop : ℕ) (e : span (i ∷ []) (
       let y = stands-records w g 0 4 (i ∷ []) (held w) start stop refl stood in
       cc
 
-  module _ (residue : ℕ) (code location : Optional) (v : Values.NewAtom) (n : Names.Names) where
-    abbrev atom : NewAtom
-    atom = given [] residue code [] location [] v
+  module _ (residue : ℕ) (code location : Optional) (v : NewAtom) (n : Names.Names) where
+    abbrev atom : Addition
+    atom = addition [] residue code [] location [] v
 
     abbrev outcome : List ℕ × List ℕ
     outcome = stepBy w (intoModel (length w) i atom (preparedOf n))
@@ -341,10 +341,10 @@ module _ (w : List ℕ) (g : Good w) (i start stop : ℕ) (e : span (i ∷ []) (
               moves w s′ (preparedOf n) (atomOf v (n .name)) refl g known (model-span w g i ∙ e) lands (put-grown w g after _ _ ins x (count + 4 - s .depth) s′ d new-length l new-words)
 
 -- in the model at an index
-module _ (w : List ℕ) (g : Good w) (i : ℕ) (chain : List ℕ) (residue : ℕ) (code : Optional) (conformer : List ℕ) (location : Optional) (name : List ℕ) (v : Values.NewAtom)
+module _ (w : List ℕ) (g : Good w) (i : ℕ) (chain : List ℕ) (residue : ℕ) (code : Optional) (conformer : List ℕ) (location : Optional) (name : List ℕ) (v : NewAtom)
     (r : Span.Span) (e : r ≡ spanOf (span (i ∷ []) (held w))) where
-  abbrev asked : NewAtom
-  asked = given chain residue code conformer location name v
+  abbrev asked : Addition
+  asked = addition chain residue code conformer location name v
 
   abbrev answer : List ℕ × List ℕ
   answer = stepBy w (addAtom (length w) i asked)
@@ -372,6 +372,6 @@ module _ (w : List ℕ) (g : Good w) (i : ℕ) (chain : List ℕ) (residue : ℕ
         unfolding stepBy addAtom
         atom-bad t = rw (g, stood w g i start stop model-spans .there, ← prepared, z, values-only v (n .name), ← f, t)
 
-        pub atom-ready : {x : List ℕ × List ℕ} → b ≡ true → x ≡ stepBy w (intoModel (length w) i (given [] residue code [] location [] v) (preparedOf n)) → x ≡ answer
+        pub atom-ready : {x : List ℕ × List ℕ} → b ≡ true → x ≡ stepBy w (intoModel (length w) i (addition [] residue code [] location [] v) (preparedOf n)) → x ≡ answer
         unfolding stepBy addAtom intoModel
         atom-ready t a = a ∙ rw (g, stood w g i start stop model-spans .there, ← prepared, z, values-only v (n .name), ← f, t)

@@ -5,58 +5,22 @@ use lib.ListN.{length, set, replicate}
 use Rattle.machine.specs.Answer.{Result, ok, refused, _>>=_}
 use Rattle.machine.specs.Text.{Optional}
 use Rattle.machine.specs.Store.{Machine}
-use Rattle.machine.specs.Record.{Atom}
-use Rattle.machine.specs.Edit.{NewAtom, Prepare, Change, position, branchAt, replaceAt, intoChains, fits}
+use Rattle.machine.specs.Edit.{Addition, addition, Prepare, Change, position, branchAt, replaceAt, intoChains, fits}
+use Rattle.machine.specs.declared.NewAtom.{NewAtom}
 use Rattle.machine.specs.declared.Prepared.{Prepared}
 use Rattle.machine.specs.declared.Prepared.the-variants.{Stored, Absent, Bad}
 use Rattle.machine.specs.declared.Refusal.the-variants.{BadIdentifier}
 use Rattle.moves.specs.Over.{over, gapped}
-use Rattle.additions.specs.declared.NewAtom as Values
 use Rattle.additions.specs.declared.Names as Names
 use Rattle.additions.specs.declared.Word as Word
 use Rattle.additions.specs.declared.Readied as Readied
 
 -- ---- the arguments
 
-abbrev pub atomOf : Values.NewAtom → ℕ → Atom
-atomOf v name =
-    record {
-      serial = v .serial;
-      name = name;
-      x = v .x;
-      y = v .y;
-      z = v .z;
-      occupancy = v .occupancy;
-      «b_factor» = v .«b_factor»;
-      element = v .element;
-      charge = v .charge;
-      hetero = v .hetero;
-    }
-
-abbrev pub given : List ℕ → ℕ → Optional → List ℕ → Optional → List ℕ → Values.NewAtom → NewAtom
-given chain residue code conformer location name v =
-    record {
-      chain = chain;
-      residue = residue;
-      code = code;
-      conformer = conformer;
-      location = location;
-      name = name;
-      serial = v .serial;
-      x = v .x;
-      y = v .y;
-      z = v .z;
-      occupancy = v .occupancy;
-      «b_factor» = v .«b_factor»;
-      element = v .element;
-      charge = v .charge;
-      hetero = v .hetero;
-    }
-
 -- its names, with zeros for the rest
-abbrev pub named : List ℕ → Optional → List ℕ → Optional → List ℕ → NewAtom
+abbrev pub named : List ℕ → Optional → List ℕ → Optional → List ℕ → Addition
 named chain code conformer location name =
-    given chain 0 code conformer location name (record { serial = 0; x = 0; y = 0; z = 0; occupancy = 0; «b_factor» = 0; element = 0; charge = 0; hetero = 0 })
+    addition chain 0 code conformer location name (record { serial = 0; x = 0; y = 0; z = 0; occupancy = 0; «b_factor» = 0; element = 0; charge = 0; hetero = 0 })
 
 -- ---- the names made ready
 
@@ -75,7 +39,7 @@ resultOf Readied.the-variants.Bad = refused BadIdentifier
 -- ---- the new records
 
 -- the words of a new chain, residue, conformer and atom, one below the other
-abbrev pub columnWords : Names.Names → ℕ → Values.NewAtom → List ℕ
+abbrev pub columnWords : Names.Names → ℕ → NewAtom → List ℕ
 columnWords n residue v =
     (2 ∷ n .chain ∷ replicate 10 0)
     ++ ((3 ∷ residue ∷ n .code ∷ replicate 9 0)
@@ -90,7 +54,7 @@ put x n new w =
 -- ---- the addition
 
 -- `addAtom` where the names are ready and the values good
-unfoldable pub intoModel : ℕ → ℕ → NewAtom → Prepare → Machine → Result Change
+unfoldable pub intoModel : ℕ → ℕ → Addition → Prepare → Machine → Result Change
 intoModel n i a p m = do
   t ← position (branchAt 0 4 (i ∷ []) m)
   fits n (replaceAt 0 4 (i ∷ []) ((t .0, intoChains a p (t .1)) ∷ []) m)

@@ -9,31 +9,18 @@ ghost use Rattle.machine.specs.Record.{goodValues};
 ghost use Rattle.machine.specs.Store.{capacity};
 ghost use mathlib.Core.List.{[], _∷_};
 ghost use mathlib.Core.Option.{some};
-ghost use Rattle.machine.specs.Edit.{prepare, addModel, addAtom, stepBy};
+ghost use Rattle.machine.specs.Edit.{addition, atomOf, prepare, addModel, addAtom, stepBy};
 ghost use Rattle.seek.specs.Seek.{Good, held, span};
 ghost use Rattle.places.specs.Place.{Known};
-ghost use Rattle.additions.specs.Add.{atomOf, given, named, wordOf, preparedOf, resultOf, columnWords, put, intoModel};
+ghost use Rattle.additions.specs.Add.{named, wordOf, preparedOf, resultOf, columnWords, put, intoModel};
 use elements::Element;
 use machine::Edited;
+use machine::NewAtom;
 use machine::Prepared;
 use machine::Record;
 use machine::Refusal;
 use places::Place;
 use seek::Span;
-
-// A new atom's numbers; floats and the charge are given by their bits.
-#[repr(C)]
-pub struct NewAtom {
-    pub serial: u64,
-    pub x: u64,
-    pub y: u64,
-    pub z: u64,
-    pub occupancy: u64,
-    pub b_factor: u64,
-    pub element: u64,
-    pub charge: u64,
-    pub hetero: u64,
-}
 
 // ---- the arguments
 
@@ -216,7 +203,7 @@ fn put_atom(
     requires { ⌜ Known place (now store) ⌝ }
     requires { ⌜ span (model ∷ []) (held (now store)) ≡ some (start, end) ⌝ }
     ensures { λ r. ⌜ Known (r .place) (now (store .exit)) ⌝ }
-    ensures { λ r. ⌜ (editedNumbers (r .edited), now (store .exit)) ≡ stepBy (now (store .entry)) (intoModel (length (now (store .entry))) model (given [] residue (optionalOf «code_flag» (now (code .entry))) [] (optionalOf «location_flag» (now (location .entry))) [] values) (preparedOf names)) ⌝ }
+    ensures { λ r. ⌜ (editedNumbers (r .edited), now (store .exit)) ≡ stepBy (now (store .entry)) (intoModel (length (now (store .entry))) model (addition [] residue (optionalOf «code_flag» (now (code .entry))) [] (optionalOf «location_flag» (now (location .entry))) [] values) (preparedOf names)) ⌝ }
 {
     let count = seek::record_count(store);
     let spot = places::spot_of(
@@ -267,7 +254,7 @@ pub fn add_atom_at(
     requires { ⌜ Good (now store) ⌝ }
     requires { ⌜ Known place (now store) ⌝ }
     ensures { λ r. ⌜ Known (r .place) (now (store .exit)) ⌝ }
-    ensures { λ r. ⌜ (editedNumbers (r .edited), now (store .exit)) ≡ stepBy (now (store .entry)) (addAtom (length (now (store .entry))) model (given (now (chain .entry)) residue (optionalOf «code_flag» (now (code .entry))) (now (conformer .entry)) (optionalOf «location_flag» (now (location .entry))) (now (name .entry)) values)) ⌝ }
+    ensures { λ r. ⌜ (editedNumbers (r .edited), now (store .exit)) ≡ stepBy (now (store .entry)) (addAtom (length (now (store .entry))) model (addition (now (chain .entry)) residue (optionalOf «code_flag» (now (code .entry))) (now (conformer .entry)) (optionalOf «location_flag» (now (location .entry))) (now (name .entry)) values)) ⌝ }
 {
     let Span::At(start, end) = places::model_span(store, place, model) else {
         return Added {
@@ -326,7 +313,7 @@ pub fn add_atom(
     values: NewAtom,
 ) -> Edited
     requires { ⌜ Good (now store) ⌝ }
-    ensures { λ r. ⌜ (editedNumbers r, now (store .exit)) ≡ stepBy (now (store .entry)) (addAtom (length (now (store .entry))) model (given (now (chain .entry)) residue (optionalOf «code_flag» (now (code .entry))) (now (conformer .entry)) (optionalOf «location_flag» (now (location .entry))) (now (name .entry)) values)) ⌝ }
+    ensures { λ r. ⌜ (editedNumbers r, now (store .exit)) ≡ stepBy (now (store .entry)) (addAtom (length (now (store .entry))) model (addition (now (chain .entry)) residue (optionalOf «code_flag» (now (code .entry))) (now (conformer .entry)) (optionalOf «location_flag» (now (location .entry))) (now (name .entry)) values)) ⌝ }
 {
     let added = add_atom_at(
         store,

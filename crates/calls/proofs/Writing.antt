@@ -45,7 +45,7 @@ formOf (AddModel serial) = record { code = 1; numbers = serial ∷ []; parts = [
 formOf (AddAtom model a) =
     record {
       code = 2;
-      numbers = model ∷ a .residue ∷ a .code .flag ∷ a .location .flag ∷ a .serial ∷ a .x ∷ a .y ∷ a .z ∷ a .occupancy ∷ a .«b_factor» ∷ a .element ∷ a .charge ∷ a .hetero ∷ [];
+      numbers = model ∷ a .residue ∷ a .code .flag ∷ a .location .flag ∷ a .values .serial ∷ a .values .x ∷ a .values .y ∷ a .values .z ∷ a .values .occupancy ∷ a .values .«b_factor» ∷ a .values .element ∷ a .values .charge ∷ a .values .hetero ∷ [];
       parts = a .chain ∷ a .code .text ∷ a .conformer ∷ a .location .text ∷ a .name ∷ [];
       fits = refl;
     }

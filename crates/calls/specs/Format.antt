@@ -10,7 +10,8 @@ use Rattle.machine.specs.Lists.{isEmpty, all, andThen}
 use Rattle.machine.specs.Text.{optionalOf}
 use Rattle.machine.specs.Edit.{
   Call,
-  NewAtom,
+  Addition,
+  addition,
   AddModel,
   AddAtom,
   RemoveChain,
@@ -41,30 +42,15 @@ pub record Row : Type 0 where
 abbrev row : ℕ → ℕ → ℕ → ((ℕ → ℕ) → (ℕ → List ℕ) → Call) → Row
 row numbers texts trees call = record { numbers = numbers; texts = texts; trees = trees; call = call }
 
-abbrev newAtomOf : (ℕ → ℕ) → (ℕ → List ℕ) → NewAtom
-newAtomOf n p =
-    record {
-      chain = p 0;
-      residue = n 1;
-      code = optionalOf (n 2) (p 1);
-      conformer = p 2;
-      location = optionalOf (n 3) (p 3);
-      name = p 4;
-      serial = n 4;
-      x = n 5;
-      y = n 6;
-      z = n 7;
-      occupancy = n 8;
-      «b_factor» = n 9;
-      element = n 10;
-      charge = n 11;
-      hetero = n 12;
-    }
+abbrev additionOf : (ℕ → ℕ) → (ℕ → List ℕ) → Addition
+additionOf n p =
+    addition (p 0) (n 1) (optionalOf (n 2) (p 1)) (p 2) (optionalOf (n 3) (p 3)) (p 4)
+    (record { serial = n 4; x = n 5; y = n 6; z = n 7; occupancy = n 8; «b_factor» = n 9; element = n 10; charge = n 11; hetero = n 12 })
 
 unfoldable pub rows : List Row
 rows =
     row 1 0 0 (λ n p. AddModel (n 0))
-    ∷ row 13 5 0 (λ n p. AddAtom (n 0) (newAtomOf n p))
+    ∷ row 13 5 0 (λ n p. AddAtom (n 0) (additionOf n p))
     ∷ row 2 0 0 (λ n p. RemoveChain (n 0) (n 1))
     ∷ row 3 0 0 (λ n p. RemoveResidue (n 0) (n 1) (n 2))
     ∷ row 4 0 0 (λ n p. RemoveConformer (n 0) (n 1) (n 2) (n 3))

@@ -1,7 +1,7 @@
 // Worked cases 9 and 10 of document 01 as runs of the code, and the third demand's counts on its store S.
-use additions::NewAtom;
 use machine::Edited;
 use machine::Found;
+use machine::NewAtom;
 use machine::Record;
 use structs::model;
 use structs::pdb;

@@ -3,7 +3,7 @@ use Prim.Native.Nat.{ℕ, _+_, _%_, _≤_}
 use mathlib.Core.Path.{_≡_}
 use mathlib.Core.List.{List, map}
 use lib.ListN.{length, getD, take}
-use Rattle.additions.specs.declared.NewAtom as Values
+use Rattle.machine.specs.declared.NewAtom as Values
 
 abbrev pub lowByte : ℕ → ℕ
 lowByte n = n % 256

@@ -12,8 +12,8 @@ ghost use Rattle.calls.specs.Counted.{isSome};
 ghost use Rattle.calls.specs.Format.{readCall};
 ghost use Rattle.dispatch.specs.Words.{partEnd, Narrowed, valuesIn};
 use additions::Added;
-use additions::NewAtom;
 use machine::Edited;
+use machine::NewAtom;
 use places::Place;
 
 // ---- calls with texts, a byte to a word

@@ -7,17 +7,16 @@ ghost use Rattle.machine.specs.Text.{optionalOf};
 ghost use Rattle.machine.specs.Store.{readStore, openRun};
 ghost use Rattle.machine.specs.Find.{findRun};
 ghost use Rattle.machine.specs.Edit as Calls;
-ghost use Rattle.machine.specs.Edit.{storeStep};
+ghost use Rattle.machine.specs.Edit.{addition, storeStep};
 ghost use Rattle.machine.specs.Lookup.{lookupRun};
-ghost use Rattle.additions.specs.Add.{given};
 ghost use Rattle.copies.specs.Copy.{copyRun};
 ghost use Rattle.edits.specs.Apply.{appliedNumbers, ran, applyRun};
 ghost use Rattle.exports.specs.Fields.{applyFields};
-use additions::NewAtom;
 use edits::Applied;
 use machine::EditAnswer;
 use machine::FindAnswer;
 use machine::LookupAnswer;
+use machine::NewAtom;
 use store::Checked;
 
 // 0 for a good store, else the refusal's number.
@@ -85,7 +84,7 @@ pub extern "C" fn jubrelti_add_atom(
     name: &[u8],
     values: NewAtom,
 ) -> EditAnswer
-    ensures { λ r. ⌜ (editFields r, now (store .exit)) ≡ storeStep (now (store .entry)) (Calls.AddAtom model (given (now (chain .entry)) residue (optionalOf «code_flag» (now (code .entry))) (now (conformer .entry)) (optionalOf «location_flag» (now (location .entry))) (now (name .entry)) values)) ⌝ }
+    ensures { λ r. ⌜ (editFields r, now (store .exit)) ≡ storeStep (now (store .entry)) (Calls.AddAtom model (addition (now (chain .entry)) residue (optionalOf «code_flag» (now (code .entry))) (now (conformer .entry)) (optionalOf «location_flag» (now (location .entry))) (now (name .entry)) values)) ⌝ }
 {
     let edited = structs::model::add_atom(
         store,

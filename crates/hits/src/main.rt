@@ -1,7 +1,6 @@
 // The hits of find on a small store, read out by `Hit`.
 ghost use mathlib.Core.Path.{_≡_};
 ghost use Rattle.hierarchy.specs.Hit.{modelOf, chainOf, residueOf, conformerOf, atomOf};
-use additions::NewAtom;
 use hierarchy::ChainRec;
 use hierarchy::ConformerRec;
 use hierarchy::Hit;
@@ -9,6 +8,7 @@ use hierarchy::ModelRec;
 use hierarchy::Named;
 use hierarchy::ResidueRec;
 use machine::AtomRec;
+use machine::NewAtom;
 use machine::RecordNumbers;
 use structs::model;
 use structs::pdb;

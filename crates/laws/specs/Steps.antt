@@ -14,7 +14,7 @@ use Rattle.machine.specs.Text.{Optional, chainId, insertionCode, conformerName,
 use Rattle.machine.specs.Record.{Fields, goodFields, goodValues}
 use Rattle.machine.specs.Store.{Branch, Machine, records, flat, stored, capacity, atomCount}
 use Rattle.machine.specs.Query.{readTree}
-use Rattle.machine.specs.Edit.{NewAtom, Call, AddModel, AddAtom, RemoveChain, RemoveResidue, RemoveConformer, RemoveAtom, RemoveChainById, RemoveResidueById, RemoveConformerById, RemoveAtomBySerialNumber, RemoveAtomsBy, RemoveEmpty, JoinModels, JoinChains, JoinResidues, JoinConformers, Change, up, branchAt, replaceAt, position, fits, addModel, accept, Prepare, prepare, newAtom, Which, first, last, pick, putIn, upsert, intoChains, addAtom, removeAt, root, withChildren, without, removeFirst, withFound, keepAtoms, removeAtomsBy, nonEmpty, removeEmpty, joinAt, withMachine, machineStep, answer, next}
+use Rattle.machine.specs.Edit.{Addition, Call, AddModel, AddAtom, RemoveChain, RemoveResidue, RemoveConformer, RemoveAtom, RemoveChainById, RemoveResidueById, RemoveConformerById, RemoveAtomBySerialNumber, RemoveAtomsBy, RemoveEmpty, JoinModels, JoinChains, JoinResidues, JoinConformers, Change, up, branchAt, replaceAt, position, fits, addModel, accept, Prepare, prepare, newAtom, Which, first, last, pick, putIn, upsert, intoChains, addAtom, removeAt, root, withChildren, without, removeFirst, withFound, keepAtoms, removeAtomsBy, nonEmpty, removeEmpty, joinAt, withMachine, machineStep, answer, next}
 use Rattle.machine.specs.declared.Refusal.{Refusal}
 use Rattle.machine.specs.declared.Refusal.the-variants.{BadLength, BrokenLayout, TreeShape, TreeNode, NoPosition, BadIdentifier, BadValue, NoCapacity, JoinWithItself, ShortOutput, BadFile}
 use Rattle.machine.specs.declared.Name.{Name}
@@ -239,11 +239,11 @@ module _ (k : ℕ) (w : Which) (p : Fields (suc k) → Bool) (new : Fields (suc 
   upsert-good g n ts h =
       putIn-all (goodBranch (suc k)) (pick w (λ t. p (t .0)) ts) (λ t. (t .0, f (t .1))) (new, f []) ts (λ t o. good-children k t (f (t .1)) o (g (t .1) (good-parts k t o .1))) (and-true n (g [] refl)) h
 
-atom-one : (a : NewAtom) (p : Prepare) (us : List (Branch 0)) → sum (atomCount 0) (us ++ (newAtom a p ∷ [])) ≡ suc (sum (atomCount 0) us)
+atom-one : (a : Addition) (p : Prepare) (us : List (Branch 0)) → sum (atomCount 0) (us ++ (newAtom a p ∷ [])) ≡ suc (sum (atomCount 0) us)
 unfolding atomCount
 atom-one a p us = omega (arith, sum-append (atomCount 0) us (newAtom a p ∷ []))
 
-intoChains-count : (a : NewAtom) (p : Prepare) (ts : List (Branch 3)) → sum (atomCount 3) (intoChains a p ts) ≡ suc (sum (atomCount 3) ts)
+intoChains-count : (a : Addition) (p : Prepare) (ts : List (Branch 3)) → sum (atomCount 3) (intoChains a p ts) ≡ suc (sum (atomCount 3) ts)
 intoChains-count a p ts = upsert-count 2 _ _ _ _ (upsert-count 1 _ _ _ _ (upsert-count 0 _ _ _ _ (atom-one a p))) ts
 
 -- ---- an addition's names are in stored form
@@ -292,7 +292,7 @@ record GoodNames (p : Prepare) : Type 0 where
   location : absentOr alternativeLocation (p .location) ≡ true
   name : storedBy atomName (p .name) ≡ true
 
-prepare-good : (a : NewAtom) → IfOk GoodNames (prepare a)
+prepare-good : (a : Addition) → IfOk GoodNames (prepare a)
 unfolding prepare
 prepare-good a =
     if-bind GoodNames (accept ChainId (chainId (a .chain))) _
@@ -310,7 +310,7 @@ prepare-good a =
 
 -- ---- good additions
 
-module _ (a : NewAtom) (p : Prepare) (g : GoodNames p) (values : goodValues (newAtom a p) ≡ true) where
+module _ (a : Addition) (p : Prepare) (g : GoodNames p) (values : goodValues (newAtom a p) ≡ true) where
   atom-good : (us : List (Branch 0)) → all (goodBranch 0) us ≡ true → all (goodBranch 0) (us ++ (newAtom a p ∷ [])) ≡ true
   unfolding goodBranch goodFields
   atom-good us h = all-append (goodBranch 0) us (newAtom a p ∷ []) h (and-true (and-true (g .name) values) refl)
@@ -338,10 +338,10 @@ addModel-grows n serial m =
     fits-grows n 0 m (m ++ (new ∷ [])) (λ h. all-append (goodBranch 4) m (new ∷ []) h refl) (omega (arith, sum-append (atomCount 4) m (new ∷ []), atoms .splits 3 new))
 
 -- the machine with an atom added to the model t at index i
-abbrev withAtom : ℕ → NewAtom → Prepare → Branch 4 → Machine → Machine
+abbrev withAtom : ℕ → Addition → Prepare → Branch 4 → Machine → Machine
 withAtom i a p t m = withChildren 0 3 (i ∷ []) t (intoChains a p (t .1)) m
 
-module _ (i : ℕ) (a : NewAtom) (m : Machine) (t : Branch 4) (p : Prepare) (there : branchAt 0 4 (i ∷ []) m ≡ some t) where
+module _ (i : ℕ) (a : Addition) (m : Machine) (t : Branch 4) (p : Prepare) (there : branchAt 0 4 (i ∷ []) m ≡ some t) where
   added-count : stored (withAtom i a p t m) ≡ 1 + stored m
   added-count =
       let new : Branch 4 = (t .0, intoChains a p (t .1)) in
@@ -353,7 +353,7 @@ module _ (i : ℕ) (a : NewAtom) (m : Machine) (t : Branch 4) (p : Prepare) (the
       let g = branch-good 0 4 (i ∷ []) m t there h in
       replace-all 0 4 (i ∷ []) _ m h (and-true (good-children 3 t _ g (intoChains-good a p names values (t .1) (good-parts 3 t g .1))) refl)
 
-addAtom-grows : (n i : ℕ) (a : NewAtom) (m : Machine) → IfOk (λ c. Grows n 1 m (c .after)) (addAtom n i a m)
+addAtom-grows : (n i : ℕ) (a : Addition) (m : Machine) → IfOk (λ c. Grows n 1 m (c .after)) (addAtom n i a m)
 unfolding addAtom
 addAtom-grows n i a m =
     if-bind _ (position (branchAt 0 4 (i ∷ []) m)) _

@@ -12,7 +12,7 @@ use Rattle.machine.specs.Record.{Words, words, fieldsOf, goodValues, goo
 use Rattle.machine.specs.Store.{Machine, stored, flat, atomCount, laid, layOut, inOrder, goodLayout, cut, group, readStore}
 use Rattle.machine.specs.Query.{codes, nodeOf, nodesOf, run, leavesOne, readTree, treeValue, dropSign, close, termValue, tables, packedName}
 use Rattle.machine.specs.Find.{enter, atomsIn, atomsOf, hitsIn, hitsOf, findRun}
-use Rattle.machine.specs.Edit.{NewAtom, Call, AddModel, AddAtom, branchAt, replaceAt, addModel, prepare, upsert, addAtom, machineStep, stepBy, storeStep, storeAfter, storeAnswers}
+use Rattle.machine.specs.Edit.{Addition, addition, Call, AddModel, AddAtom, branchAt, replaceAt, addModel, prepare, upsert, addAtom, machineStep, stepBy, storeStep, storeAfter, storeAnswers}
 use Rattle.machine.specs.Program.{readInput, digits, printed, programRun}
 use Rattle.machine.specs.Demand.{undecided}
 
@@ -94,25 +94,10 @@ abbrev pub present : String → Optional
 present t = record { flag = 1; text = bytes t }
 
 -- an atom under chain A, residue 7, conformer ALA
-abbrev pub atom : ℕ → Optional → NewAtom
+abbrev pub atom : ℕ → Optional → Addition
 atom serial code =
-    record {
-      chain = bytes "A";
-      residue = 7;
-      code = code;
-      conformer = bytes "ALA";
-      location = absent;
-      name = bytes "N";
-      serial = serial;
-      x = 0;
-      y = 0;
-      z = 0;
-      occupancy = 0;
-      «b_factor» = 0;
-      element = 7;
-      charge = 0;
-      hetero = 0;
-    }
+    addition (bytes "A") 7 code (bytes "ALA") absent (bytes "N")
+    (record { serial = serial; x = 0; y = 0; z = 0; occupancy = 0; «b_factor» = 0; element = 7; charge = 0; hetero = 0 })
 
 abbrev pub zeros : ℕ → List ℕ
 zeros n = replicate n 0

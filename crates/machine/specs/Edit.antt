@@ -20,30 +20,28 @@ use Rattle.machine.specs.declared.Name.{Name}
 use Rattle.machine.specs.declared.Name.the-variants.{ChainId, InsertionCode, ConformerName, AlternativeLocation, AtomName}
 use Rattle.machine.specs.declared.Refusal.the-variants.{NoPosition, BadValue, NoCapacity, JoinWithItself}
 use Rattle.machine.specs.declared.Edited as Edited
+use Rattle.machine.specs.declared.NewAtom.{NewAtom}
 
 -- ---- the calls, with their arguments other than the store
 
-pub record NewAtom : Type 0 where
+-- an atom to add: the ids of what it is put under, its name, and its values
+pub record Addition : Type 0 where
   pub chain : List ℕ
   pub residue : ℕ
   pub code : Optional
   pub conformer : List ℕ
   pub location : Optional
   pub name : List ℕ
-  pub serial : ℕ
-  pub x : ℕ
-  pub y : ℕ
-  pub z : ℕ
-  pub occupancy : ℕ
-  pub «b_factor» : ℕ
-  pub element : ℕ
-  pub charge : ℕ
-  pub hetero : ℕ
+  pub values : NewAtom
+
+abbrev pub addition : List ℕ → ℕ → Optional → List ℕ → Optional → List ℕ → NewAtom → Addition
+addition chain residue code conformer location name values =
+    record { chain = chain; residue = residue; code = code; conformer = conformer; location = location; name = name; values = values }
 
 -- "The sixteen edit calls". A position goes from the model down; texts and flags follow it
 pub data Call : Type 0 where
   AddModel : (serial : ℕ) → Call
-  AddAtom : (model : ℕ) → NewAtom → Call
+  AddAtom : (model : ℕ) → Addition → Call
   RemoveChain : (model chain : ℕ) → Call
   RemoveResidue : (model chain residue : ℕ) → Call
   RemoveConformer : (model chain residue conformer : ℕ) → Call
@@ -116,7 +114,7 @@ pub record Prepare : Type 0 where
   pub name : ℕ
 
 -- "6 (chain, code, conformer, location, atom name)"
-unfoldable pub prepare : NewAtom → Result Prepare
+unfoldable pub prepare : Addition → Result Prepare
 prepare a = do
   chain ← accept ChainId (chainId (a .chain))
   code ← accept InsertionCode (optional insertionCode (a .code))
@@ -125,20 +123,24 @@ prepare a = do
   name ← accept AtomName (atomName (a .name))
   ok (record { chain = chain; code = code; conformer = conformer; location = location; name = name })
 
-abbrev pub newAtom : NewAtom → Prepare → Atom
-newAtom a p =
+-- the values with a stored name
+abbrev pub atomOf : NewAtom → ℕ → Atom
+atomOf v name =
     record {
-      serial = a .serial;
-      name = p .name;
-      x = a .x;
-      y = a .y;
-      z = a .z;
-      occupancy = a .occupancy;
-      «b_factor» = a .«b_factor»;
-      element = a .element;
-      charge = a .charge;
-      hetero = a .hetero;
+      serial = v .serial;
+      name = name;
+      x = v .x;
+      y = v .y;
+      z = v .z;
+      occupancy = v .occupancy;
+      «b_factor» = v .«b_factor»;
+      element = v .element;
+      charge = v .charge;
+      hetero = v .hetero;
     }
+
+abbrev pub newAtom : Addition → Prepare → Atom
+newAtom a p = atomOf (a .values) (p .name)
 
 pub data Which : Type 0 where
   first last : Which
@@ -157,24 +159,24 @@ unfoldable pub upsert : (k : ℕ) → Which → (Fields (suc k) → Bool) → Fi
 upsert k w p new f ts = putIn (pick w (λ t. p (t .0)) ts) (λ t. (t .0, f (t .1))) (new, f []) ts
 
 -- "the FIRST conformer with the raised name and equal alternative location", compared as given; "The atom is appended."
-abbrev pub intoConformers : NewAtom → Prepare → List (Branch 1) → List (Branch 1)
+abbrev pub intoConformers : Addition → Prepare → List (Branch 1) → List (Branch 1)
 intoConformers a p ts =
     upsert 0 first (λ c. eqb (c .name) (p .conformer) && matchesOptional (a .location) (c .location)) (record { name = p .conformer; location = p .location })
     (λ atoms. atoms ++ (newAtom a p ∷ []))
     ts
 
 -- "the LAST residue whose serial and code equal the arguments", the code compared as given
-abbrev pub intoResidues : NewAtom → Prepare → List (Branch 2) → List (Branch 2)
+abbrev pub intoResidues : Addition → Prepare → List (Branch 2) → List (Branch 2)
 intoResidues a p ts =
     upsert 1 last (λ r. eqb (r .serial) (a .residue) && matchesOptional (a .code) (r .code)) (record { serial = a .residue; code = p .code })
     (intoConformers a p)
     ts
 
 -- "the FIRST chain with the trimmed id"
-abbrev pub intoChains : NewAtom → Prepare → List (Branch 3) → List (Branch 3)
+abbrev pub intoChains : Addition → Prepare → List (Branch 3) → List (Branch 3)
 intoChains a p ts = upsert 2 first (λ c. eqb (c .id) (p .chain)) (record { id = p .chain }) (intoResidues a p) ts
 
-unfoldable pub addAtom : ℕ → ℕ → NewAtom → Machine → Result Change
+unfoldable pub addAtom : ℕ → ℕ → Addition → Machine → Result Change
 addAtom n i a m = do
   t ← position (branchAt 0 4 (i ∷ []) m)
   p ← prepare a

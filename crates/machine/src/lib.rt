@@ -114,6 +114,20 @@ pub struct AtomRec {
     pub hetero: bool,
 }
 
+// The values of an atom that is added; floats and the charge are given by their bits.
+#[repr(C)]
+pub struct NewAtom {
+    pub serial: u64,
+    pub x: u64,
+    pub y: u64,
+    pub z: u64,
+    pub occupancy: u64,
+    pub b_factor: u64,
+    pub element: u64,
+    pub charge: u64,
+    pub hetero: u64,
+}
+
 // An identifier made ready for the store.
 pub enum Prepared {
     Stored(u64),

@@ -12,7 +12,7 @@ use Rattle.machine.specs.Lists.{isEmpty, all}
 use Rattle.machine.specs.Answer.{Result, ok, refused, _>>=_}
 use Rattle.machine.specs.Text.{optionalOf, optional, pack, plain, raise, trim, fit, chainId, raised, insertionCode, conformerName, alternativeLocation, atomName}
 use Rattle.machine.specs.Record.{finite, goodValues}
-use Rattle.machine.specs.Edit.{NewAtom, accept, prepare, newAtom, Prepare}
+use Rattle.machine.specs.Edit.{Addition, accept, prepare, newAtom, Prepare}
 use Rattle.machine.specs.declared.Name.{Name}
 use Rattle.machine.specs.declared.Name.the-variants.{ChainId, InsertionCode, ConformerName, AlternativeLocation, AtomName}
 use Rattle.machine.specs.declared.Prepared.the-variants.{Stored, Absent, Bad}
@@ -103,7 +103,7 @@ module _ (w : ℕ) where
 
 -- ---- an addition that is accepted
 
-module _ (a : NewAtom) (p : Prepare) (h : prepare a ≡ ok p) (g : goodValues (newAtom a p) ≡ true) where
+module _ (a : Addition) (p : Prepare) (h : prepare a ≡ ok p) (g : goodValues (newAtom a p) ≡ true) where
   pub record Fine : Type 0 where
     pub domain : Domain a
     pub ready : Ready a
@@ -121,10 +121,10 @@ module _ (a : NewAtom) (p : Prepare) (h : prepare a ≡ ok p) (g : goodValues (n
       let fm = raised-met (f .0) ConformerName (a .conformer) (f .1) in
       let lm = location-met (l .0) (a .location .flag) (a .location .text) (l .1) in
       let nm = name-met (n .0) (a .name) (n .1) in
-      let v = and-both (all finite (floats a) && leb (a .element) 118) (leb (a .hetero) 1) g in
-      let u = and-both (all finite (floats a)) (leb (a .element) 118) (v .0) in
+      let v = and-both (all finite (floats a) && leb (a .values .element) 118) (leb (a .values .hetero) 1) g in
+      let u = and-both (all finite (floats a)) (leb (a .values .element) 118) (v .0) in
       record {
-        domain = record { chain = cm .0; code = im .0; conformer = fm .0; location = lm; name = nm .0; element = leb-true (a .element) 118 (u .1); hetero = leb-true (a .hetero) 1 (v .1) };
+        domain = record { chain = cm .0; code = im .0; conformer = fm .0; location = lm; name = nm .0; element = leb-true (a .values .element) 118 (u .1); hetero = leb-true (a .values .hetero) 1 (v .1) };
         ready =
             record {
               chain = chained (a .chain) _ (cm .0) (cm .1);

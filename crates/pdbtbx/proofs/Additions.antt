@@ -13,7 +13,7 @@ use Rattle.machine.specs.Text.{Optional, optionalOf, trim, optional, insertionC
 use Rattle.machine.specs.Record.{finite, goodValues}
 use Rattle.machine.specs.Record as Record
 use Rattle.machine.specs.Store.{Branch, Machine}
-use Rattle.machine.specs.Edit.{NewAtom, AddAtom, Prepare, accept, prepare, newAtom, upsert, intoConformers, intoResidues, intoChains, branchAt, replaceAt, fits, machineStep}
+use Rattle.machine.specs.Edit.{Addition, AddAtom, Prepare, accept, prepare, newAtom, upsert, intoConformers, intoResidues, intoChains, branchAt, replaceAt, fits, machineStep}
 use Rattle.machine.specs.Edit as Edit
 use Rattle.machine.specs.declared.Name.the-variants.{InsertionCode}
 use Rattle.machine.specs.declared.Prepared.the-variants.{Bad}
@@ -65,10 +65,10 @@ module _ (k : ℕ) (p : Record.Fields (suc k) → Bool) (new : Record.Fields (su
       ∙ current-map (structOf (suc k)) g (λ t. (t .0, f (t .1))) h (lastWhere (λ t. p (t .0)) ts) (new, []) ts (last-within (λ t. p (t .0)) ts)
 
 -- the floats of an atom
-abbrev pub floats : NewAtom → List ℕ
-floats a = a .x ∷ a .y ∷ a .z ∷ a .occupancy ∷ a .«b_factor» ∷ []
+abbrev pub floats : Addition → List ℕ
+floats a = a .values .x ∷ a .values .y ∷ a .values .z ∷ a .values .occupancy ∷ a .values .«b_factor» ∷ []
 
-pub record Ready (a : NewAtom) : Type 0 where
+pub record Ready (a : Addition) : Type 0 where
   pub chain : Chained (a .chain)
   pub code : Coded (a .residue) (a .code)
   pub conformer : Raised (a .conformer)
@@ -77,7 +77,7 @@ pub record Ready (a : NewAtom) : Type 0 where
   pub valid : validIdentifier (trim (a .name)) ≡ true
   pub finites : all finite (floats a) ≡ true
 
-module _ (a : NewAtom) (d : Domain a) (r : Ready a) where
+module _ (a : Addition) (d : Domain a) (r : Ready a) where
   abbrev pub words : Prepare
   words = record { chain = r .chain .word; code = r .code .word; conformer = r .conformer .word; location = r .location .word; name = r .name .word }
 
@@ -87,7 +87,7 @@ module _ (a : NewAtom) (d : Domain a) (r : Ready a) where
 
   pub good-values : goodValues (newAtom a words) ≡ true
   unfolding goodValues
-  good-values = and-true (and-true (r .finites) (le-leb (a .element) 118 (d .element))) (le-leb (a .hetero) 1 (d .hetero))
+  good-values = and-true (and-true (r .finites) (le-leb (a .values .element) 118 (d .element))) (le-leb (a .values .hetero) 1 (d .hetero))
 
   abbrev pub atom : Atom
   atom = saysOf zero (newAtom a words)
@@ -183,7 +183,7 @@ then-never : {A B : Type 0} (o : Option A) (f : A → Option B) → ((x : A) →
 then-never none f h = refl
 then-never (some x) f h = h x
 
-module _ (i : ℕ) (a : NewAtom) where
+module _ (i : ℕ) (a : Addition) where
   abbrev pub onModel : Atom → Struct 4 → Answer (Struct 4)
   onModel atom = modelAddAtom atom (a .chain) (a .residue) (optionOf (a .code)) (a .conformer) (optionOf (a .location))
 
@@ -228,12 +228,12 @@ module _ (i : ℕ) (a : NewAtom) where
 -- ---- the theorem
 
 -- in a store of n words the machine takes the step, if there is room, to what stands for the crate's structure afterwards
-pub record Added (n i : ℕ) (m : Machine) (a : NewAtom) (r : Bool × List (Struct 4)) : Type 0 where
+pub record Added (n i : ℕ) (m : Machine) (a : Addition) (r : Bool × List (Struct 4)) : Type 0 where
   pub after : Machine
   pub stepped : machineStep n m (AddAtom i a) ≡ fits n after
   pub held : r ≡ (true, pdbOf after)
 
-module _ (n i : ℕ) (m : Machine) (a : NewAtom) (d : Domain a) (r : Bool × List (Struct 4)) (h : addAtom i (argumentsOf a) (pdbOf m) ≡ some r) where
+module _ (n i : ℕ) (m : Machine) (a : Addition) (d : Domain a) (r : Bool × List (Struct 4)) (h : addAtom i (argumentsOf a) (pdbOf m) ≡ some r) where
   y : Ready a
   y = ready i a d (pdbOf m) r h
 

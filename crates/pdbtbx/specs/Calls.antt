@@ -8,7 +8,7 @@ use Rattle.machine.specs.Lists.{same, andThen}
 use Rattle.machine.specs.Answer.{Result, ok, refused}
 use Rattle.machine.specs.Text.{Optional}
 use Rattle.machine.specs.Query.{readTree}
-use Rattle.machine.specs.Edit.{NewAtom, Call, AddModel, AddAtom, RemoveChain, RemoveResidue, RemoveConformer, RemoveAtom, RemoveChainById, RemoveResidueById, RemoveConformerById, RemoveAtomBySerialNumber, RemoveAtomsBy, RemoveEmpty, JoinModels, JoinChains, JoinResidues, JoinConformers}
+use Rattle.machine.specs.Edit.{Addition, Call, AddModel, AddAtom, RemoveChain, RemoveResidue, RemoveConformer, RemoveAtom, RemoveChainById, RemoveResidueById, RemoveConformerById, RemoveAtomBySerialNumber, RemoveAtomsBy, RemoveEmpty, JoinModels, JoinChains, JoinResidues, JoinConformers}
 use Rattle.machine.specs.declared.Term.{Term}
 use Rattle.machine.specs.declared.Node.{Node}
 use Rattle.machine.specs.declared.Node.the-variants as Nodes
@@ -29,7 +29,7 @@ present (suc n) t = some t
 abbrev pub optionOf : Optional → Option Text
 optionOf o = present (o .flag) (o .text)
 
-abbrev pub argumentsOf : NewAtom → Arguments
+abbrev pub argumentsOf : Addition → Arguments
 argumentsOf a =
     record {
       chain = a .chain;
@@ -37,16 +37,16 @@ argumentsOf a =
       code = optionOf (a .code);
       conformer = a .conformer;
       location = optionOf (a .location);
-      hetero = eqb (a .hetero) 1;
-      serial = a .serial;
+      hetero = eqb (a .values .hetero) 1;
+      serial = a .values .serial;
       name = a .name;
-      x = a .x;
-      y = a .y;
-      z = a .z;
-      occupancy = a .occupancy;
-      «b_factor» = a .«b_factor»;
-      element = optionElement (a .element);
-      charge = a .charge;
+      x = a .values .x;
+      y = a .values .y;
+      z = a .values .z;
+      occupancy = a .values .occupancy;
+      «b_factor» = a .values .«b_factor»;
+      element = optionElement (a .values .element);
+      charge = a .values .charge;
     }
 
 -- ---- a tree's nodes as a `Search`: operands on a stack, the upper one being the right one

@@ -14,7 +14,7 @@ use Rattle.machine.specs.Store.{Branch, stored, capacity, layOut, openRun}
 use Rattle.machine.specs.Kleene.{decided, notT, applyT, isHit}
 use Rattle.machine.specs.Query.{Place, window, readTree, treeValue, termValue, tables}
 use Rattle.machine.specs.Find.{Site, size, atomsIn, findRun}
-use Rattle.machine.specs.Edit.{NewAtom, Call, AddModel, AddAtom, RemoveChain, RemoveResidue, RemoveConformer, RemoveAtom, RemoveChainById, RemoveResidueById, RemoveConformerById, RemoveAtomBySerialNumber, RemoveAtomsBy, RemoveEmpty, JoinModels, JoinChains, JoinResidues, JoinConformers, storeStep, storeAfter, storeAnswers}
+use Rattle.machine.specs.Edit.{Addition, Call, AddModel, AddAtom, RemoveChain, RemoveResidue, RemoveConformer, RemoveAtom, RemoveChainById, RemoveResidueById, RemoveConformerById, RemoveAtomBySerialNumber, RemoveAtomsBy, RemoveEmpty, JoinModels, JoinChains, JoinResidues, JoinConformers, storeStep, storeAfter, storeAnswers}
 use Rattle.machine.specs.Demand.{accepts, Accepted, list}
 use Rattle.machine.specs.declared.Tri.{Tri}
 use Rattle.machine.specs.declared.Term.{Term}
@@ -79,15 +79,15 @@ Flagged zero P = Unit {0}
 Flagged (suc zero) P = P
 Flagged (suc (suc n)) P = ⊥
 
-pub record Domain (a : NewAtom) : Type 0 where
+pub record Domain (a : Addition) : Type 0 where
   pub chain : Short (a .chain)
   pub code : Flagged (a .code .flag) (Short (a .code .text))
   pub conformer : Short (a .conformer)
   pub location : Flagged (a .location .flag) (Fitting (a .location .text))
   pub name : Short (a .name)
   -- an `Element`, a `bool`
-  pub element : a .element ≤ 118
-  pub hetero : a .hetero ≤ 1
+  pub element : a .values .element ≤ 118
+  pub hetero : a .values .hetero ≤ 1
 
 -- beside "inputs on which the Rust doesn't panic": what Rust's types can say, with short identifiers; Rust can't join a thing with itself
 abbrev pub InDomain : Call → Type 0

@@ -9,7 +9,7 @@ use Rattle.machine.specs.Store.{Machine, readStore}
 use Rattle.machine.specs.Edit.{
   Call,
   Change,
-  NewAtom,
+  Addition,
   AddModel,
   AddAtom,
   RemoveChain,
@@ -73,7 +73,7 @@ module _ {x : List ℕ × List ℕ} (w : List ℕ) (i c r f a : ℕ) where
   unfolding storeStep machineStep
   model-added e = e
 
-  pub atom-added : (new : NewAtom) → x ≡ stepBy w (addAtom (length w) i new) → x ≡ storeStep w (AddAtom i new)
+  pub atom-added : (new : Addition) → x ≡ stepBy w (addAtom (length w) i new) → x ≡ storeStep w (AddAtom i new)
   unfolding storeStep machineStep
   atom-added new e = e
 

@@ -2,11 +2,10 @@
 ghost use mathlib.Core.Path.{_≡_};
 ghost use Rattle.machine.specs.Answer.{editedNumbers};
 ghost use Rattle.machine.specs.Text.{optionalOf};
-ghost use Rattle.machine.specs.Edit.{storeStep, AddAtom, RemoveChain, RemoveChainById, RemoveAtomsBy, RemoveEmpty, JoinModels};
-ghost use Rattle.additions.specs.Add.{given};
+ghost use Rattle.machine.specs.Edit.{storeStep, addition, AddAtom, RemoveChain, RemoveChainById, RemoveAtomsBy, RemoveEmpty, JoinModels};
 use super::positions;
-use additions::NewAtom;
 use machine::Edited;
+use machine::NewAtom;
 use store::Checked;
 
 // "Add atom, to a model". Optional texts have a flag, 0 absent or 1 present.
@@ -23,7 +22,7 @@ pub fn add_atom(
     name: &[u8],
     values: NewAtom,
 ) -> Edited
-    ensures { λ r. ⌜ (editedNumbers r, now (store .exit)) ≡ storeStep (now (store .entry)) (AddAtom model (given (now (chain .entry)) residue (optionalOf «code_flag» (now (code .entry))) (now (conformer .entry)) (optionalOf «location_flag» (now (location .entry))) (now (name .entry)) values)) ⌝ }
+    ensures { λ r. ⌜ (editedNumbers r, now (store .exit)) ≡ storeStep (now (store .entry)) (AddAtom model (addition (now (chain .entry)) residue (optionalOf «code_flag» (now (code .entry))) (now (conformer .entry)) (optionalOf «location_flag» (now (location .entry))) (now (name .entry)) values)) ⌝ }
 {
     let checked = store::check(store);
     match checked {
