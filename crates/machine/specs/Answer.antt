@@ -89,6 +89,6 @@ need true r = ok tt
 need false r = refused r
 
 -- the value, or what the refusal gives
-abbrev pub orElse : {A : Type 0} → (Refusal → A) → Result A → A
-orElse f (ok x) = x
-orElse f (refused r) = f r
+abbrev pub ifRefused : {A : Type 0} → (Refusal → A) → Result A → A
+ifRefused f (ok x) = x
+ifRefused f (refused r) = f r

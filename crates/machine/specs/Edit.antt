@@ -7,7 +7,7 @@ use mathlib.Core.Option.{Option, none, some}
 use lib.ListN.{length}
 use lib.Dec.{leb, eqb}
 use Rattle.machine.specs.Lists.{isEmpty, those, nth, splice, firstWhere, lastWhere, andThen, same}
-use Rattle.machine.specs.Answer.{Result, ok, refused, _>>=_, _>>_, need, orElse, badName, editedNumbers}
+use Rattle.machine.specs.Answer.{Result, ok, refused, _>>=_, _>>_, need, ifRefused, badName, editedNumbers}
 use Rattle.machine.specs.Text.{Optional, chainId, insertionCode, conformerName, alternativeLocation, atomName, optional, goodFlag, matches, matchesOptional}
 use Rattle.machine.specs.Record.{Fields, Atom, goodValues}
 use Rattle.machine.specs.Store.{Branch, Machine, records, stored, capacity, layOut, readStore}
@@ -286,7 +286,7 @@ next m (refused r) = m
 -- refusal leaves the words
 unfoldable pub stepBy : List ℕ → (Machine → Result Change) → List ℕ × List ℕ
 stepBy w step =
-    orElse (λ r. (editedNumbers (Edited.the-variants.Refused r), w)) (do
+    ifRefused (λ r. (editedNumbers (Edited.the-variants.Refused r), w)) (do
       m ← readStore w
       c ← step m
       ok (answer m (ok c), layOut (length w) (c .after)))
