@@ -16,7 +16,8 @@ use Rattle.machine.specs.Demand.{accepts, Accepted}
 use Rattle.laws.specs.Steps.{refusal-number}
 use Rattle.calls.specs.Format.{readCalls}
 use Rattle.edits.specs.Apply.{Run, answered, runCalls, runRead, applyRun}
-use Rattle.demands.specs.Demand.{answers, machine, run, demand3}
+use Rattle.demands.specs.Demand.{answers, machine, run}
+use Rattle.demands.proofs.Demand.{demand3}
 use Rattle.claims.specs.Claim.{threes, Lists, Claims, wholeRun}
 
 -- ---- the list

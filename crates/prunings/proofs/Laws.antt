@@ -25,8 +25,8 @@ use Rattle.seek.proofs.Below.{record-kind, between-cons, between-nil}
 use Rattle.seek.proofs.Laws.{Stands, found, missing}
 use Rattle.seek.specs.declared.Span as Span
 use Rattle.prunings.specs.Prune.{Laid, instead, stays, full, Gathered}
-use Rattle.prunings.specs.Laws.{full-chains, nonEmpty-atoms}
-use Rattle.prunings.specs.Words.{good-laid, between-twelve, between-over, Rewritten, rewritten, below-within, below-high, below-records, below-laid, below-stored}
+use Rattle.prunings.proofs.Branches.{full-chains, nonEmpty-atoms}
+use Rattle.prunings.proofs.Words.{good-laid, between-twelve, between-over, Rewritten, rewritten, below-within, below-high, below-records, below-laid, below-stored}
 
 -- ---- `close_gap`
 

@@ -22,7 +22,7 @@ use Rattle.seek.specs.Seek.{held, Good, Within, recordAt, between}
 use Rattle.seek.proofs.Below.{chunks-snoc, between-nil}
 use Rattle.seek.proofs.Laws.{Stands, spot-length, stands-within, stands-records}
 use Rattle.prunings.specs.Prune.{Laid, instead, Compacted, kept}
-use Rattle.prunings.specs.Laws.{those-length, kept-atoms, kept-count}
+use Rattle.prunings.proofs.Branches.{those-length, kept-atoms, kept-count}
 
 -- ---- records laid out
 
