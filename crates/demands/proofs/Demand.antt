@@ -20,7 +20,7 @@ use Rattle.laws.specs.Kleene.{hit-and, hit-or, hit-both, hit-either}
 use Rattle.laws.specs.Trees.{and-value, or-value, not-value}
 use Rattle.laws.specs.Numbers.{numbers-rise, atoms-stored}
 use Rattle.laws.specs.Steps.{step-keeps, step-counts}
-use Rattle.demands.specs.Demand.{after, answers, machine, run, Demand3}
+use Rattle.demands.specs.Demand.{after, answers, machine, findAfter, Demand3}
 use Rattle.demands.proofs.Runs.{Listed, run-listed}
 
 -- ---- the edits
@@ -109,35 +109,35 @@ module _ (w : List ℕ) (calls : List Call) (opens : Accepted (openRun w)) where
   keyed = numbers-rise (machine w calls)
 
   -- an accepted run
-  module _ (t out : List ℕ) (a : Accepted (run w calls t out)) where
-    ran : Listed (machine w calls) t (run w calls t out)
+  module _ (t out : List ℕ) (a : Accepted (findAfter w calls t out)) where
+    ran : Listed (machine w calls) t (findAfter w calls t out)
     ran = run-listed (machine w calls) t out (after w calls) reads a
 
-    hits-listed : list (run w calls t out) ≡ map numbersOf (those (hits t) atoms)
+    hits-listed : list (findAfter w calls t out) ≡ map numbersOf (those (hits t) atoms)
     unfolding hitsIn
     hits-listed = ran .hits
 
-    hits-counted : count (run w calls t out) ≡ length (those (hits t) atoms)
+    hits-counted : count (findAfter w calls t out) ≡ length (those (hits t) atoms)
     hits-counted = ran .number ∙ ap length hits-listed ∙ length-map (those (hits t) atoms) numbersOf
 
-    hits-rise : Rising (map atomNumber (list (run w calls t out)))
+    hits-rise : Rising (map atomNumber (list (findAfter w calls t out)))
     hits-rise =
         rw (hits-listed, map-map)
         (rises-rising 0 (length (records (machine w calls))) (map (λ s. atomNumber (numbersOf s)) (those (hits t) atoms)) (keyed-those numbersOf atomNumber (hits t) 0 (length (records (machine w calls))) atoms keyed))
 
-  module _ (A o : List ℕ) (a : Accepted (run w calls A o)) where
-    module _ (B p : List ℕ) (b : Accepted (run w calls B p)) where
-      and-hits : (q : List ℕ) → Accepted (run w calls (andTree A B) q) → those (hits (andTree A B)) atoms ≡ those (λ s. hits A s && hits B s) atoms
+  module _ (A o : List ℕ) (a : Accepted (findAfter w calls A o)) where
+    module _ (B p : List ℕ) (b : Accepted (findAfter w calls B p)) where
+      and-hits : (q : List ℕ) → Accepted (findAfter w calls (andTree A B) q) → those (hits (andTree A B)) atoms ≡ those (λ s. hits A s && hits B s) atoms
       and-hits q c =
           those-same (hits (andTree A B)) (λ s. hits A s && hits B s)
           (λ s. ap isHit (and-value _ A _ (ran A o a .tree) B _ (ran B p b .tree) _ (ran (andTree A B) q c .tree)) ∙ hit-and (valueAt tables A s) (valueAt tables B s)) atoms
 
-      or-hits : (q : List ℕ) → Accepted (run w calls (orTree A B) q) → those (hits (orTree A B)) atoms ≡ those (λ s. hits A s || hits B s) atoms
+      or-hits : (q : List ℕ) → Accepted (findAfter w calls (orTree A B) q) → those (hits (orTree A B)) atoms ≡ those (λ s. hits A s || hits B s) atoms
       or-hits q c =
           those-same (hits (orTree A B)) (λ s. hits A s || hits B s)
           (λ s. ap isHit (or-value _ A _ (ran A o a .tree) B _ (ran B p b .tree) _ (ran (orTree A B) q c .tree)) ∙ hit-or (valueAt tables A s) (valueAt tables B s)) atoms
 
-    module _ (p : List ℕ) (b : Accepted (run w calls (notTree A) p)) where
+    module _ (p : List ℕ) (b : Accepted (findAfter w calls (notTree A) p)) where
       not-hits : (s : Site) → hits (notTree A) s ≡ isHit (notT (valueAt tables A s))
       not-hits s = ap isHit (not-value _ A _ (ran A o a .tree) _ (ran (notTree A) p b .tree))
 

@@ -28,8 +28,8 @@ module _ (w : List ℕ) (calls : List Call) where
   machine = machineAfter (length w) [] calls
 
   -- a run of find on that store, with an output of its own
-  abbrev pub run : List ℕ → List ℕ → List ℕ × List ℕ
-  run t out = findRun after t out
+  abbrev pub findAfter : List ℕ → List ℕ → List ℕ × List ℕ
+  findAfter t out = findRun after t out
 
   pub record Demand3 : Type 0 where
     -- the edits answer as the machine does, and the store holds exactly its structure
@@ -37,18 +37,18 @@ module _ (w : List ℕ) (calls : List Call) where
     pub held : after ≡ layOut (length w) machine
     pub counted : stored machine + removed answers ≡ added calls answers
     -- an accepted run lists exactly the stored atoms where its tree isn't false, in hierarchy order, each once
-    pub lists : (t out : List ℕ) → Accepted (run t out) → list (run t out) ≡ map (λ s. s .numbers) (those (λ s. isHit (valueAt tables t s)) (atomsOf machine))
-    pub rises : (t out : List ℕ) → Accepted (run t out) → Rising (map atomNumber (list (run t out)))
-    pub number : (t out : List ℕ) → Accepted (run t out) → count (run t out) ≡ length (list (run t out))
+    pub lists : (t out : List ℕ) → Accepted (findAfter t out) → list (findAfter t out) ≡ map (λ s. s .numbers) (those (λ s. isHit (valueAt tables t s)) (atomsOf machine))
+    pub rises : (t out : List ℕ) → Accepted (findAfter t out) → Rising (map atomNumber (list (findAfter t out)))
+    pub number : (t out : List ℕ) → Accepted (findAfter t out) → count (findAfter t out) ≡ length (list (findAfter t out))
     -- "A and B", "A or B"
-    pub and-shares : (A B o p q : List ℕ) → Accepted (run A o) → Accepted (run B p) → Accepted (run (andTree A B) q)
-        → list (run (andTree A B) q) ≡ shared (list (run A o)) (list (run B p))
-    pub or-joins : (A B o p q : List ℕ) → Accepted (run A o) → Accepted (run B p) → Accepted (run (orTree A B) q)
-        → (hit : List ℕ) → listed (list (run (orTree A B) q)) hit ≡ (listed (list (run A o)) hit || listed (list (run B p)) hit)
-    pub and-or-counts : (A B o p q r : List ℕ) → Accepted (run A o) → Accepted (run B p) → Accepted (run (andTree A B) q) → Accepted (run (orTree A B) r)
-        → count (run A o) + count (run B p) ≡ count (run (andTree A B) q) + count (run (orTree A B) r)
+    pub and-shares : (A B o p q : List ℕ) → Accepted (findAfter A o) → Accepted (findAfter B p) → Accepted (findAfter (andTree A B) q)
+        → list (findAfter (andTree A B) q) ≡ shared (list (findAfter A o)) (list (findAfter B p))
+    pub or-joins : (A B o p q : List ℕ) → Accepted (findAfter A o) → Accepted (findAfter B p) → Accepted (findAfter (orTree A B) q)
+        → (hit : List ℕ) → listed (list (findAfter (orTree A B) q)) hit ≡ (listed (list (findAfter A o)) hit || listed (list (findAfter B p)) hit)
+    pub and-or-counts : (A B o p q r : List ℕ) → Accepted (findAfter A o) → Accepted (findAfter B p) → Accepted (findAfter (andTree A B) q) → Accepted (findAfter (orTree A B) r)
+        → count (findAfter A o) + count (findAfter B p) ≡ count (findAfter (andTree A B) q) + count (findAfter (orTree A B) r)
     -- "not A"
-    pub not-shares : (A o p : List ℕ) → Accepted (run A o) → Accepted (run (notTree A) p)
-        → shared (list (run A o)) (list (run (notTree A) p)) ≡ map (λ s. s .numbers) (those (λ s. isUndecided (valueAt tables A s)) (atomsOf machine))
-    pub not-counts : (A o p : List ℕ) → Accepted (run A o) → Accepted (run (notTree A) p)
-        → count (run A o) + count (run (notTree A) p) + removed answers ≡ added calls answers + undecided A machine
+    pub not-shares : (A o p : List ℕ) → Accepted (findAfter A o) → Accepted (findAfter (notTree A) p)
+        → shared (list (findAfter A o)) (list (findAfter (notTree A) p)) ≡ map (λ s. s .numbers) (those (λ s. isUndecided (valueAt tables A s)) (atomsOf machine))
+    pub not-counts : (A o p : List ℕ) → Accepted (findAfter A o) → Accepted (findAfter (notTree A) p)
+        → count (findAfter A o) + count (findAfter (notTree A) p) + removed answers ≡ added calls answers + undecided A machine
