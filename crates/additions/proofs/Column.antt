@@ -18,8 +18,8 @@ use Rattle.laws.specs.Lists.{All-map, bind-append}
 use Rattle.laws.specs.Grouped.{flats-kinds, chunks-length}
 use Rattle.laws.specs.Scan.{ends-branches}
 use Rattle.laws.specs.Places.{Around, Spot}
-use Rattle.seek.specs.Seek.{between, run}
-use Rattle.seek.proofs.Below.{chunks-take, run-over}
+use Rattle.seek.specs.Seek.{recordsIn, descendants}
+use Rattle.seek.proofs.Below.{chunks-take, descendants-over}
 use Rattle.places.specs.Pick.{Key, marks, pickSpan, keysOf, spotIn}
 use Rattle.places.specs.Place.{column}
 use Rattle.places.proofs.Picks.{chosen, pick-over, unmarked}
@@ -78,7 +78,7 @@ module _ (h k : ℕ) (level : h + k ≡ 4) (mark : Words → Bool) (other : (r :
 
 -- a branch's children stand right after its record, up to the next branch's
 module _ (h k : ℕ) (level : h + k ≡ 4) (w : List ℕ) (from end i : ℕ) (ts : List (Branch (suc k))) (t : Branch (suc k)) (a : Around i ts t)
-    (low : 1 ≤ h) (order : from ≤ end) (records : between from end w ≡ bind (flat (suc k)) ts) where
+    (low : 1 ≤ h) (order : from ≤ end) (records : recordsIn from end w ≡ bind (flat (suc k)) ts) where
   abbrev lead : List Words
   lead = bind (flat (suc k)) (a .before) ++ (words (suc k) (t .0) ∷ [])
 
@@ -88,7 +88,7 @@ module _ (h k : ℕ) (level : h + k ≡ 4) (w : List ℕ) (from end i : ℕ) (ts
   abbrev rest : List Words
   rest = bind (flat (suc k)) (a .after)
 
-  parts : between from end w ≡ (lead ++ kids) ++ rest
+  parts : recordsIn from end w ≡ (lead ++ kids) ++ rest
   unfolding flat
   parts = records ∙ ap (bind (flat (suc k))) (a .was) ∙ bind-append (flat (suc k)) (a .before) (t ∷ a .after) ∙ simp append-assoc
 
@@ -105,13 +105,13 @@ module _ (h k : ℕ) (level : h + k ≡ 4) (w : List ℕ) (from end i : ℕ) (ts
   total =
       omega (arith, ap length parts, length-append (lead ++ kids) rest, length-append lead kids, length-drop from (chunks end w), chunks-length end w)
 
-  after-start : drop (suc (length (bind (flat (suc k)) (a .before)))) (between from end w) ≡ kids ++ rest
+  after-start : drop (suc (length (bind (flat (suc k)) (a .before)))) (recordsIn from end w) ≡ kids ++ rest
   after-start = rw (parts, append-assoc lead kids rest) (drop-at lead (kids ++ rest) _ lead-length)
 
-  kids-run : run h (kids ++ rest) ≡ length kids
-  kids-run = run-over h kids rest (flats-kinds h k (omega arith) (t .1)) (ends-branches h (suc k) (omega arith) (omega arith) (a .after))
+  kids-descendants : descendants h (kids ++ rest) ≡ length kids
+  kids-descendants = descendants-over h kids rest (flats-kinds h k (omega arith) (t .1)) (ends-branches h (suc k) (omega arith) (omega arith) (a .after))
 
-  kids-below : between (start + 1) stop w ≡ kids
+  kids-below : recordsIn (start + 1) stop w ≡ kids
   kids-below =
       let x : List Words = take from (chunks end w) in
       let n : length x ≡ from = length-take-le from (chunks end w) (omega (arith, chunks-length end w)) in
@@ -120,9 +120,9 @@ module _ (h k : ℕ) (level : h + k ≡ 4) (w : List ℕ) (from end i : ℕ) (ts
       let whole : chunks end w ≡ ((x ++ lead) ++ kids) ++ rest = sym (take-append-drop from (chunks end w)) ∙ ap (λ (l : List Words). x ++ l) parts ∙ simp append-assoc in
       rw (chunks-take stop end w (omega (arith, total, lead-length)), whole, take-at ((x ++ lead) ++ kids) rest stop g) (drop-at (x ++ lead) kids (start + 1) f)
 
-  pick-there : (key : Key) → pick (key .which) (marks h key) (between from end w) ≡ some (length (bind (flat (suc k)) (a .before)))
-      → pickSpan h key from (between from end w) ≡ some (start, stop)
-  pick-there key e = rw (e, after-start, kids-run)
+  pick-there : (key : Key) → pick (key .which) (marks h key) (recordsIn from end w) ≡ some (length (bind (flat (suc k)) (a .before)))
+      → pickSpan h key from (recordsIn from end w) ≡ some (start, stop)
+  pick-there key e = rw (e, after-start, kids-descendants)
 
 -- ---- one column at one place
 
@@ -137,11 +137,11 @@ pub record Ins (k : ℕ) (ts us : List (Branch k)) (n at : ℕ) (new : List Word
 -- f puts records in where the keys lead: those of the column that do not stand already
 pub record Puts (h k : ℕ) (f : List (Branch k) → List (Branch k)) (keys : List Key) (col : List Words) : Type 0 where
   pub alone : bind (flat k) (f []) ≡ col
-  pub among : (w : List ℕ) (from end : ℕ) (ts : List (Branch k)) → from ≤ end → between from end w ≡ bind (flat k) ts
+  pub among : (w : List ℕ) (from end : ℕ) (ts : List (Branch k)) → from ≤ end → recordsIn from end w ≡ bind (flat k) ts
       → Ins k ts (f ts) from (spotIn h keys from end w .0) (drop (spotIn h keys from end w .1) col)
 
 -- appended, after all of them
-ins-end : (k : ℕ) (w : List ℕ) (from end : ℕ) (ts : List (Branch k)) (t : Branch k) → from ≤ end → between from end w ≡ bind (flat k) ts → Ins k ts (ts ++ (t ∷ [])) from end (flat k t)
+ins-end : (k : ℕ) (w : List ℕ) (from end : ℕ) (ts : List (Branch k)) (t : Branch k) → from ≤ end → recordsIn from end w ≡ bind (flat k) ts → Ins k ts (ts ++ (t ∷ [])) from end (flat k t)
 ins-end k w from end ts t order e =
     record {
       pre = bind (flat k) ts;
@@ -176,17 +176,17 @@ module _ (h k : ℕ) (level : h + k ≡ 4) (low : 1 ≤ h) (key : Key) (p : Fiel
   abbrev into : List (Branch (suc k)) → List (Branch (suc k))
   into ts = upsert k (key .which) p new f ts
 
-  level-among : (w : List ℕ) (from end : ℕ) (ts : List (Branch (suc k))) → from ≤ end → between from end w ≡ bind (flat (suc k)) ts
+  level-among : (w : List ℕ) (from end : ℕ) (ts : List (Branch (suc k))) → from ≤ end → recordsIn from end w ≡ bind (flat (suc k)) ts
       → (o : Option ℕ) → pick (key .which) (λ t. p (t .0)) ts ≡ o → Same h k level (marks h key) (unmarked h key) p finds (key .which) ts o
       → Ins (suc k) ts (into ts) from (spotIn h (key ∷ keys) from end w .0) (drop (spotIn h (key ∷ keys) from end w .1) (words (suc k) new ∷ col))
   unfolding upsert spotIn flat
   level-among w from end ts order e none q s =
-      let r : pick (key .which) (marks h key) (between from end w) ≡ none = rw e s in
+      let r : pick (key .which) (marks h key) (recordsIn from end w) ≡ none = rw e s in
       rw (q, r, ← puts .alone) (ins-end (suc k) w from end ts (new, f []) order e)
   level-among w from end ts order e (some i) q s =
       let t = s .0 in
       let a = s .1 in
-      let r : pick (key .which) (marks h key) (between from end w) ≡ some (length (bind (flat (suc k)) (a .before))) = rw e (s .2) in
+      let r : pick (key .which) (marks h key) (recordsIn from end w) ≡ some (length (bind (flat (suc k)) (a .before))) = rw e (s .2) in
       let span = pick-there h k level w from end i ts t a low order e key r in
       let kids = kids-below h k level w from end i ts t a low order e in
       rw (q, span) (ins-below k i ts _ t (f (t .1)) from _ _ a (a .is (λ u. (u .0, f (u .1)) ∷ [])) (puts .among w _ _ (t .1) (omega arith) kids))

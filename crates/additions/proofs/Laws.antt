@@ -25,11 +25,11 @@ use Rattle.machine.specs.declared.Edited as Edited
 use Rattle.laws.specs.Lists.{All-append, All-left, All-right, sum-append}
 use Rattle.laws.specs.Grouped.{concat, concat-length, twelve-words}
 use Rattle.laws.specs.Layout.{laid-length, layOut-read, recordsOf-layOut, read-length, read-parts, records-read, length-parts}
-use Rattle.moves.specs.Over.{over, gapped}
+use Rattle.moves.specs.Over.{over, gapped, Twelve}
 use Rattle.moves.proofs.Laws.{over-at}
-use Rattle.moves.proofs.Records.{Twelve, twelve-take, twelve-drop, blank, blank-twelve, insert-laid, write-laid, drop-records}
-use Rattle.seek.specs.Seek.{held, Good, Within, between, isAtom, atomRecords, span, spanOf}
-use Rattle.seek.proofs.Below.{between-cons}
+use Rattle.moves.proofs.Records.{twelve-take, twelve-drop, blank, blank-twelve, insert-laid, write-laid, drop-records}
+use Rattle.seek.specs.Seek.{held, Good, Within, recordsIn, isAtom, atomRecords, span, spanOf}
+use Rattle.seek.proofs.Below.{recordsIn-cons}
 use Rattle.seek.proofs.Laws.{records-count, atoms-stored, at-span, Stands, stands, missing, stands-within, stands-records}
 use Rattle.seek.specs.declared.Span as Span
 use Rattle.places.specs.Place.{Known, Lands, column, Grown, Moves}
@@ -38,7 +38,7 @@ use Rattle.places.specs.declared.Place as Place
 use Rattle.places.specs.declared.Spot as Spot
 use Rattle.places.proofs.Spans.{model-inside, model-span}
 use Rattle.additions.specs.Add.{columnWords, preparedOf, resultOf, named, wordOf, put, intoModel}
-use Rattle.additions.specs.declared.Names as Names
+use Rattle.additions.specs.declared.StoredNames as StoredNames
 use Rattle.additions.specs.declared.Word as Word
 use Rattle.additions.specs.declared.Readied as Readied
 use Rattle.additions.proofs.Column.{Ins, puts-chains, ins-machine, ins-model}
@@ -246,11 +246,11 @@ module _ (w : List ℕ) (g : Good w) (serial x count : ℕ) (e : x ≡ capacity 
 -- ---- add_atom
 
 -- the new records, all four
-abbrev newColumn : Names.Names → ℕ → NewAtom → List Words
+abbrev newColumn : StoredNames.StoredNames → ℕ → NewAtom → List Words
 newColumn n residue v = column (preparedOf n) residue (atomOf v (n .name))
 
 -- the words of the column's records from one on
-column-part : (n : Names.Names) (residue : ℕ) (v : NewAtom) (x : ℕ) → x ≤ 4
+column-part : (n : StoredNames.StoredNames) (residue : ℕ) (v : NewAtom) (x : ℕ) → x ≤ 4
     → take (48 - 12 * x) (drop (12 * x) (columnWords n residue v)) ≡ concat (drop x (newColumn n residue v))
 unfolding words
 column-part n residue v x l =
@@ -283,14 +283,14 @@ module _ (w : List ℕ) (g : Good w) (i start stop : ℕ) (e : span (i ∷ []) (
   pub model-few : stop ≤ 100000
   model-few = omega (arith, model-inside w g i start stop (model-span w g i ∙ e) .high, ap length (records-read w (held w) g), good-count w g)
 
-  chains : between (start + 1) stop w ≡ bind (flat 3) (there .1)
+  chains : recordsIn (start + 1) stop w ≡ bind (flat 3) (there .1)
   unfolding flat
   chains =
-      let x = between-cons w stop start (omega (arith, long)) in
+      let x = recordsIn-cons w stop start (omega (arith, long)) in
       let y = stands-records w g 0 4 (i ∷ []) (held w) start stop refl stood in
       cc
 
-  module _ (residue : ℕ) (code location : Optional) (v : NewAtom) (n : Names.Names) where
+  module _ (residue : ℕ) (code location : Optional) (v : NewAtom) (n : StoredNames.StoredNames) where
     abbrev atom : Addition
     atom = addition [] residue code [] location [] v
 
@@ -367,7 +367,7 @@ module _ (w : List ℕ) (g : Good w) (i : ℕ) (chain : List ℕ) (residue : ℕ
       unfolding stepBy addAtom
       atom-unnamed z = rw (g, stood w g i start stop model-spans .there, ← prepared, z)
 
-      module _ (n : Names.Names) (z : o ≡ Readied.the-variants.Ready n) (b : Bool) (f : b ≡ goodValues (atomOf v 0)) where
+      module _ (n : StoredNames.StoredNames) (z : o ≡ Readied.the-variants.Ready n) (b : Bool) (f : b ≡ goodValues (atomOf v 0)) where
         pub atom-bad : b ≡ false → (editedNumbers (Edited.the-variants.Refused BadValue), w) ≡ answer
         unfolding stepBy addAtom
         atom-bad t = rw (g, stood w g i start stop model-spans .there, ← prepared, z, values-only v (n .name), ← f, t)

@@ -11,7 +11,7 @@ use Rattle.machine.specs.declared.Prepared.{Prepared}
 use Rattle.machine.specs.declared.Prepared.the-variants.{Stored, Absent, Bad}
 use Rattle.machine.specs.declared.Refusal.the-variants.{BadIdentifier}
 use Rattle.moves.specs.Over.{over, gapped}
-use Rattle.additions.specs.declared.Names as Names
+use Rattle.additions.specs.declared.StoredNames as StoredNames
 use Rattle.additions.specs.declared.Word as Word
 use Rattle.additions.specs.declared.Readied as Readied
 
@@ -29,7 +29,7 @@ wordOf (Stored w) = Word.the-variants.Is w
 wordOf Absent = Word.the-variants.Is 0
 wordOf Bad = Word.the-variants.Bad
 
-abbrev pub preparedOf : Names.Names → Prepare
+abbrev pub preparedOf : StoredNames.StoredNames → Prepare
 preparedOf n = record { chain = n .chain; code = n .code; conformer = n .conformer; location = n .location; name = n .name }
 
 abbrev pub resultOf : Readied.Readied → Result Prepare
@@ -39,7 +39,7 @@ resultOf Readied.the-variants.Bad = refused BadIdentifier
 -- ---- the new records
 
 -- the words of a new chain, residue, conformer and atom, one below the other
-abbrev pub columnWords : Names.Names → ℕ → NewAtom → List ℕ
+abbrev pub columnWords : StoredNames.StoredNames → ℕ → NewAtom → List ℕ
 columnWords n residue v =
     (2 ∷ n .chain ∷ replicate 10 0)
     ++ ((3 ∷ residue ∷ n .code ∷ replicate 9 0)

@@ -41,7 +41,7 @@ fn word_of(prepared: Prepared) -> Word
 }
 
 // An addition's names as they are stored.
-struct Names {
+struct StoredNames {
     chain: u64,
     code: u64,
     conformer: u64,
@@ -50,7 +50,7 @@ struct Names {
 }
 
 enum Readied {
-    Ready(Names),
+    Ready(StoredNames),
     Bad,
 }
 
@@ -84,7 +84,7 @@ fn ready(
     let Word::Is(name_word) = word_of(helper::prepare_atom_name(name)) else {
         return Readied::Bad;
     };
-    Readied::Ready(Names {
+    Readied::Ready(StoredNames {
         chain: chain_word,
         code: code_word,
         conformer: conformer_word,
@@ -116,7 +116,7 @@ const ATOM_AT: usize = 3 * Record::WIDTH;
 const COLUMN: usize = 4 * Record::WIDTH;
 
 // The words of a chain, its residue, the residue's conformer and the atom.
-fn column_of(names: Names, residue: u64, values: NewAtom) -> [u64; COLUMN]
+fn column_of(names: StoredNames, residue: u64, values: NewAtom) -> [u64; COLUMN]
     ensures { λ r. ⌜ r ≡ columnWords names residue values ⌝ }
 {
     let mut column = [0u64; COLUMN];
@@ -191,7 +191,7 @@ fn put_atom(
     model: u64,
     start: usize,
     end: usize,
-    names: Names,
+    names: StoredNames,
     residue: u64,
     code_flag: u64,
     code: &[u8],

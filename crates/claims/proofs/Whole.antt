@@ -16,7 +16,8 @@ use Rattle.machine.specs.Demand.{accepts, Accepted}
 use Rattle.laws.specs.Steps.{refusal-number}
 use Rattle.calls.specs.Format.{readCalls}
 use Rattle.edits.specs.Apply.{Run, answered, runCalls, runRead, applyRun}
-use Rattle.demands.specs.Demand.{answers, machine, run, demand3}
+use Rattle.demands.specs.Demand.{answers, machine, findAfter}
+use Rattle.demands.proofs.Demand.{demand3}
 use Rattle.claims.specs.Claim.{threes, Lists, Claims, wholeRun}
 
 -- ---- the list
@@ -68,7 +69,7 @@ module _ (w list out A B first second both either opposite : List ℕ) where
       let cs = l .calls in
       let d = demand3 w cs opens in
       let is : threes (length cs) (applyRun (openRun w .1) list out .out) ≡ answers w cs = rw (l .out, d .answered) (threes-answers (length w) [] cs _) in
-      let lists-for : (t out : List ℕ) → Accepted (run w cs t out) → Lists (machine w cs) t (run w cs t out) = λ t out x. record { hits = d .lists t out x; rises = d .rises t out x; number = d .number t out x } in
+      let lists-for : (t out : List ℕ) → Accepted (findAfter w cs t out) → Lists (machine w cs) t (findAfter w cs t out) = λ t out x. record { hits = d .lists t out x; rises = d .rises t out x; number = d .number t out x } in
       record {
         calls = cs;
         read = l .read;

@@ -27,7 +27,8 @@ pub struct Answers {
 // Find of a tree that is put together: "The tree "A and B" is A's nodes, then B's, then a node 23". One of over 381 words is refused
 // whatever it holds.
 fn find_joined(store: &[u64], a: &[u64], b: &[u64], code: u64, out: &mut [u64]) -> Found
-    ensures { λ r. ⌜ (foundNumbers r, now (out .exit)) ≡ findRun (now (store .entry)) (now (a .entry) ++ (now (b .entry) ++ (code ∷ 0 ∷ 0 ∷ []))) (now (out .entry)) ⌝ }
+    ensures { λ r. ⌜ (foundNumbers r, now (out .exit))
+        ≡ findRun (now (store .entry)) (now (a .entry) ++ (now (b .entry) ++ (code ∷ 0 ∷ 0 ∷ []))) (now (out .entry)) ⌝ }
 {
     let mut tree = [0u64; 384];
     let m = a.len();
@@ -55,7 +56,9 @@ fn find_all(
     either: &mut [u64],
     opposite: &mut [u64],
 ) -> Finds
-    ensures { λ r. ⌜ runsSeen r (now (first .exit)) (now (second .exit)) (now (both .exit)) (now (either .exit)) (now (opposite .exit)) ≡ findRuns (now (store .entry)) (now (a .entry)) (now (b .entry)) (now (first .entry)) (now (second .entry)) (now (both .entry)) (now (either .entry)) (now (opposite .entry)) ⌝ }
+    ensures { λ r. ⌜ runsSeen r (now (first .exit)) (now (second .exit)) (now (both .exit)) (now (either .exit)) (now (opposite .exit))
+        ≡ findRuns (now (store .entry)) (now (a .entry)) (now (b .entry))
+        (now (first .entry)) (now (second .entry)) (now (both .entry)) (now (either .entry)) (now (opposite .entry)) ⌝ }
 {
     let in_first = structs::pdb::find(store, a, first);
     let in_second = structs::pdb::find(store, b, second);
@@ -85,8 +88,13 @@ pub fn edit_and_find(
     either: &mut [u64],
     opposite: &mut [u64],
 ) -> Answers
-    ensures demand3 { λ r. ⌜ Claims (length (now (store .entry))) (now (list .entry)) (now (a .entry)) (now (b .entry)) (seen r (now (store .exit)) (now (answers .exit)) (now (first .exit)) (now (second .exit)) (now (both .exit)) (now (either .exit)) (now (opposite .exit))) ⌝ }
-    ensures whole { λ r. ⌜ seen r (now (store .exit)) (now (answers .exit)) (now (first .exit)) (now (second .exit)) (now (both .exit)) (now (either .exit)) (now (opposite .exit)) ≡ wholeRun (now (store .entry)) (now (list .entry)) (now (answers .entry)) (now (a .entry)) (now (b .entry)) (now (first .entry)) (now (second .entry)) (now (both .entry)) (now (either .entry)) (now (opposite .entry)) ⌝ }
+    ensures demand3 { λ r. ⌜ Claims (length (now (store .entry))) (now (list .entry)) (now (a .entry)) (now (b .entry))
+        (seen r (now (store .exit)) (now (answers .exit))
+        (now (first .exit)) (now (second .exit)) (now (both .exit)) (now (either .exit)) (now (opposite .exit))) ⌝ }
+    ensures whole { λ r. ⌜ seen r (now (store .exit)) (now (answers .exit))
+        (now (first .exit)) (now (second .exit)) (now (both .exit)) (now (either .exit)) (now (opposite .exit))
+        ≡ wholeRun (now (store .entry)) (now (list .entry)) (now (answers .entry)) (now (a .entry)) (now (b .entry))
+        (now (first .entry)) (now (second .entry)) (now (both .entry)) (now (either .entry)) (now (opposite .entry)) ⌝ }
 {
     let opened = structs::pdb::open(store);
     let applied = edits::apply(store, list, answers);

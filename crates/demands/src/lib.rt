@@ -1,1 +1,1 @@
-// The third demand, in specs/Demand.antt. There is no code here.
+// The third demand: specs/Demand.antt states it, and proofs/Demand.antt proves it. There is no code here.

@@ -14,7 +14,8 @@ use Rattle.machine.specs.Query.{Place, onlyIf, window}
 use Rattle.machine.specs.Find.{Site, enter, below}
 use Rattle.machine.specs.declared.RecordNumbers.{RecordNumbers}
 use Rattle.laws.specs.Scan.{above}
-use Rattle.terms.specs.Levels.{recordAt, placeAt, numbersIn}
+use Rattle.seek.specs.Seek.{recordAt}
+use Rattle.terms.specs.Levels.{placeAt, numbersIn}
 use Rattle.descent.specs.Descent.{five, siteAt, UpTo}
 
 -- ---- places
@@ -102,7 +103,7 @@ known-above w low s k n at l h b = sym (part at) ∙ ap (λ (y : Site). window l
     part x = ap (window low 5) (window-window s (k - 1) (omega arith) (placeAt w x)) ∙ window-from low s (placeAt w x)
 
 -- with it, the site is the record's own
-pub site-below : (w : List ℕ) (k n : ℕ) (at : RecordNumbers) → 1 ≤ k → k ≤ 5 → below (5 - k) n (fieldsOf (5 - k) (recordAt w n)) (siteAt w (k - 1) at) ≡ siteAt w k (enteredAt k n at)
+pub site-below : (w : List ℕ) (k n : ℕ) (at : RecordNumbers) → 1 ≤ k → k ≤ 5 → below (5 - k) n (fieldsOf (5 - k) (recordAt n w)) (siteAt w (k - 1) at) ≡ siteAt w k (enteredAt k n at)
 unfolding siteAt window enteredAt placeAt enter
 site-below w zero n at l h = absurd (omega arith)
 site-below w (suc zero) n at l h = refl

@@ -10,7 +10,7 @@ use Rattle.machine.specs.declared.Tri.the-variants.{False, True, Undecided}
 use Rattle.laws.specs.Kleene.{_⊑_}
 use Rattle.laws.specs.Trees.{tree-grows}
 use Rattle.laws.specs.Windows.{term-grows}
-use Rattle.terms.specs.Levels.{placeAt, valueAt}
+use Rattle.terms.specs.Levels.{placeAt, termValueAt}
 use Rattle.search.specs.Nodes.{checked, lowestFrom}
 use Rattle.search.specs.declared.CheckedTree.the-variants.{Good}
 use Rattle.search.proofs.Lowest.{below-lowest}
@@ -30,7 +30,7 @@ module _ (w t : List ℕ) (low : ℕ) (residues atoms : List ℕ) where
   stays : (at : RecordNumbers) (s k : ℕ) → s ≤ k → by at s ≡ True → by at k ≡ True
   stays at s k l =
       let names : Names = record { residues = residues; atoms = atoms } in
-      true-grows (by at s) (by at k) (tree-grows (valueAt w at low s residues atoms) (valueAt w at low k residues atoms) (term-grows low s k l names (placeAt w at)) t)
+      true-grows (by at s) (by at k) (tree-grows (termValueAt w at low s residues atoms) (termValueAt w at low k residues atoms) (term-grows low s k l names (placeAt w at)) t)
 
   -- a record below the one at which it is true is entered
   pub sure-entered : (s k n : ℕ) (at to : RecordNumbers) → to ≡ enteredAt k n at → 1 ≤ k → k ≤ 5 → Sure (by at) s 5 → Sure (by to) s k

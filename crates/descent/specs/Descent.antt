@@ -10,7 +10,7 @@ use Rattle.machine.specs.Find.{Site}
 use Rattle.machine.specs.declared.RecordNumbers.{RecordNumbers}
 use Rattle.machine.specs.declared.Tri.{Tri}
 use Rattle.machine.specs.declared.Tri.the-variants.{True}
-use Rattle.terms.specs.Levels.{placeAt, valueAt}
+use Rattle.terms.specs.Levels.{placeAt, termValueAt}
 use Rattle.descent.specs.declared.State.{State}
 
 -- ---- where a pass stands: five record numbers, of which the first d are the records that the next one may stand under
@@ -40,7 +40,7 @@ depthAfter k v = cond (isHit v) k (k - 1)
 
 -- a tree's value at five records, by the last kind that is known
 abbrev pub valueBy : List ℕ → List ℕ → ℕ → List ℕ → List ℕ → RecordNumbers → ℕ → Tri
-valueBy w t low residues atoms at k = treeValue (valueAt w at low k residues atoms) t
+valueBy w t low residues atoms at k = treeValue (termValueAt w at low k residues atoms) t
 
 -- with kinds up to s known the value is true, where s is below k
 abbrev pub Sure : (ℕ → Tri) → ℕ → ℕ → Type 0

@@ -68,8 +68,10 @@ pub fn turn(
     residues: &[u64],
     atoms: &[u64],
 ) -> State
-    requires { ⌜ (checked (readTree (now tree)) ≡ Good) × Inside (now store) (numbersIn (now at)) × (1 ≤ kind) × Sure (valueBy (now store) (now tree) low (now residues) (now atoms) (numbersIn (now at))) sure kind × (lowest ≡ lowestFrom 5 (now tree)) ⌝ }
-    ensures { λ r. ⌜ Turned (valueBy (now (store .entry)) (now (tree .entry)) low (now (residues .entry)) (now (atoms .entry)) (numbersIn (now (at .entry)))) kind r ⌝ }
+    requires { ⌜ (checked (readTree (now tree)) ≡ Good) × Inside (now store) (numbersIn (now at)) × (1 ≤ kind)
+        × Sure (valueBy (now store) (now tree) low (now residues) (now atoms) (numbersIn (now at))) sure kind × (lowest ≡ lowestFrom 5 (now tree)) ⌝ }
+    ensures { λ r. ⌜ Turned
+        (valueBy (now (store .entry)) (now (tree .entry)) low (now (residues .entry)) (now (atoms .entry)) (numbersIn (now (at .entry)))) kind r ⌝ }
 {
     if sure < kind {
         return State::new(kind, sure);

@@ -88,7 +88,8 @@ fn apply_all(store: &mut [u64], list: &[u64], out: &mut [u64])
 // On a store that was checked.
 fn apply_good(store: &mut [u64], list: &[u64], out: &mut [u64]) -> Applied
     requires { ⌜ Good (now store) ⌝ }
-    ensures { λ r. ⌜ ran (appliedNumbers r) (now (store .exit)) (now (out .exit)) ≡ runCalls (now (store .entry)) (now (out .entry)) (readCalls (now (list .entry))) ⌝ }
+    ensures { λ r. ⌜ ran (appliedNumbers r) (now (store .exit)) (now (out .exit))
+        ≡ runCalls (now (store .entry)) (now (out .entry)) (readCalls (now (list .entry))) ⌝ }
 {
     let counted = calls::count_calls(list);
     match counted {
@@ -106,7 +107,8 @@ fn apply_good(store: &mut [u64], list: &[u64], out: &mut [u64]) -> Applied
 
 // A refused call changes nothing, and the list goes on. A store, a list or an output that is refused changes nothing at all.
 pub fn apply(store: &mut [u64], list: &[u64], out: &mut [u64]) -> Applied
-    ensures { λ r. ⌜ record { numbers = appliedNumbers r; store = now (store .exit); out = now (out .exit) } ≡ applyRun (now (store .entry)) (now (list .entry)) (now (out .entry)) ⌝ }
+    ensures { λ r. ⌜ record { numbers = appliedNumbers r; store = now (store .exit); out = now (out .exit) }
+        ≡ applyRun (now (store .entry)) (now (list .entry)) (now (out .entry)) ⌝ }
 {
     let checked = store::check(store);
     match checked {

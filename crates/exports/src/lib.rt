@@ -181,7 +181,8 @@ pub extern "C" fn jubrelti_remove_residue_by_id(
     flag: u64,
     code: &[u8],
 ) -> EditAnswer
-    ensures { λ r. ⌜ (editFields r, now (store .exit)) ≡ storeStep (now (store .entry)) (Calls.RemoveResidueById model chain serial (optionalOf flag (now (code .entry)))) ⌝ }
+    ensures { λ r. ⌜ (editFields r, now (store .exit))
+        ≡ storeStep (now (store .entry)) (Calls.RemoveResidueById model chain serial (optionalOf flag (now (code .entry)))) ⌝ }
 {
     let edited = structs::chain::remove_residue_by_id(store, model, chain, serial, flag, code);
     answers::of_edited(edited)
@@ -197,7 +198,8 @@ pub extern "C" fn jubrelti_remove_conformer_by_id(
     flag: u64,
     location: &[u8],
 ) -> EditAnswer
-    ensures { λ r. ⌜ (editFields r, now (store .exit)) ≡ storeStep (now (store .entry)) (Calls.RemoveConformerById model chain residue (now (name .entry)) (optionalOf flag (now (location .entry)))) ⌝ }
+    ensures { λ r. ⌜ (editFields r, now (store .exit))
+        ≡ storeStep (now (store .entry)) (Calls.RemoveConformerById model chain residue (now (name .entry)) (optionalOf flag (now (location .entry)))) ⌝ }
 {
     let edited = structs::residue::remove_conformer_by_id(
         store,
@@ -220,7 +222,8 @@ pub extern "C" fn jubrelti_remove_atom_by_serial_number(
     conformer: u64,
     serial: u64,
 ) -> EditAnswer
-    ensures { λ r. ⌜ (editFields r, now (store .exit)) ≡ storeStep (now (store .entry)) (Calls.RemoveAtomBySerialNumber model chain residue conformer serial) ⌝ }
+    ensures { λ r. ⌜ (editFields r, now (store .exit))
+        ≡ storeStep (now (store .entry)) (Calls.RemoveAtomBySerialNumber model chain residue conformer serial) ⌝ }
 {
     let edited = structs::conformer::remove_atom_by_serial_number(
         store,
@@ -273,7 +276,8 @@ pub extern "C" fn jubrelti_join_residues(
     second_chain: u64,
     second_residue: u64,
 ) -> EditAnswer
-    ensures { λ r. ⌜ (editFields r, now (store .exit)) ≡ storeStep (now (store .entry)) (Calls.JoinResidues model chain residue «second_model» «second_chain» «second_residue») ⌝ }
+    ensures { λ r. ⌜ (editFields r, now (store .exit))
+        ≡ storeStep (now (store .entry)) (Calls.JoinResidues model chain residue «second_model» «second_chain» «second_residue») ⌝ }
 {
     let edited = structs::residue::join(
         store,
@@ -299,7 +303,9 @@ pub extern "C" fn jubrelti_join_conformers(
     second_residue: u64,
     second_conformer: u64,
 ) -> EditAnswer
-    ensures { λ r. ⌜ (editFields r, now (store .exit)) ≡ storeStep (now (store .entry)) (Calls.JoinConformers model chain residue conformer «second_model» «second_chain» «second_residue» «second_conformer») ⌝ }
+    ensures { λ r. ⌜ (editFields r, now (store .exit))
+        ≡ storeStep (now (store .entry))
+        (Calls.JoinConformers model chain residue conformer «second_model» «second_chain» «second_residue» «second_conformer») ⌝ }
 {
     let edited = structs::conformer::join(
         store,

@@ -2,7 +2,7 @@
 use Prim.Native.Nat.{ℕ, _+_, _*_, _/_}
 use mathlib.Core.Bool.{Bool, _&&_, cond}
 use mathlib.Core.List.{List, []}
-use lib.ListN.{length, getD, take, drop}
+use lib.ListN.{length, getD}
 use lib.Dec.{ltb, eqb}
 use denote.Ref.{RefT}
 use mir.Syntax.{w64}
@@ -10,6 +10,7 @@ use mir.Val.{toZ}
 use Rattle.machine.specs.Record.{Words, kind, fieldsOf, readOut}
 use Rattle.machine.specs.declared.AtomRec.{AtomRec}
 use Rattle.machine.specs.declared.RecordNumbers.{RecordNumbers}
+use Rattle.seek.specs.Seek.{recordAt}
 use Rattle.hierarchy.specs.declared.Named.{Named}
 use Rattle.hierarchy.specs.declared.Named.the-variants.{At, Missing}
 use Rattle.hierarchy.specs.declared.Hit.{Hit}
@@ -20,7 +21,7 @@ use Rattle.hierarchy.specs.declared.ConformerRec.{ConformerRec}
 
 -- the twelve words of the record of a number, or none where they don't all stand in the store's words
 abbrev pub recordOf : List ℕ → ℕ → Words
-recordOf w r = cond (ltb r (length w / 12)) (take 12 (drop (r * 12) w)) []
+recordOf w r = cond (ltb r (length w / 12)) (recordAt r w) []
 
 -- ---- which words are a hit
 

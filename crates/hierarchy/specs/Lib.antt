@@ -1,2 +1,1 @@
 pub mod Hit
-pub mod Found

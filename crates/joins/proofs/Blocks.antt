@@ -22,16 +22,16 @@ module _ {A : Type 0} where
 
   -- a list in two ways, of which the second is cut later
   record Seam (x y p q : List A) : Type 0 where
-    between : List A
-    front : p ≡ x ++ between
-    back : y ≡ between ++ q
+    middle : List A
+    front : p ≡ x ++ middle
+    back : y ≡ middle ++ q
 
   seam : (x y p q : List A) → x ++ y ≡ p ++ q → length x ≤ length p → Seam x y p q
   seam x y p q e l =
       let n : ℕ = length x in
       let f : x ≡ take n p = sym (take-at x y n refl) ∙ ap (take n) e ∙ take-append-le n p q l in
       let b : y ≡ drop n p ++ q = sym (drop-at x y n refl) ∙ ap (drop n) e ∙ drop-append-le n p q l in
-      record { between = drop n p; front = sym (ap (λ (z : List A). z ++ drop n p) f ∙ take-append-drop n p); back = b }
+      record { middle = drop n p; front = sym (ap (λ (z : List A). z ++ drop n p) f ∙ take-append-drop n p); back = b }
 
   -- the same block taken out of the same list
   same-cut : (p x q r y s : List A) → p ++ (x ++ q) ≡ r ++ (y ++ s) → length p ≡ length r → length x ≡ length y → p ++ q ≡ r ++ s
@@ -70,7 +70,7 @@ module _ (own : Words) (kids R R₁ X rest p q P Q : List Words) (gone qa qb : �
   turned-later : qa ≤ gone → length P ≡ gone + length kids → P ++ Q ≡ cutTurned gone qa gone (qb - 1) R
   turned-later l k =
       let s = seam X rest p ((own ∷ kids) ++ q) (sym first ∙ second) (omega arith) in
-      later-at (s .between) (s .front) (s .back) k
+      later-at (s .middle) (s .front) (s .back) k
 
   earlier-at : (y : List Words) → X ≡ (p ++ (own ∷ kids)) ++ y → q ≡ y ++ rest → length P ≡ gone → P ++ Q ≡ cutTurned gone gone (qb - 1) (qa - 1) R
   unfolding cutTurned
@@ -86,7 +86,7 @@ module _ (own : Words) (kids R R₁ X rest p q P Q : List Words) (gone qa qb : �
   turned-earlier l k =
       let o = length-append p (own ∷ kids) in
       let s = seam (p ++ (own ∷ kids)) q X rest (append-assoc p (own ∷ kids) q ∙ sym second ∙ first) (omega arith) in
-      earlier-at (s .between) (s .front) (s .back) k
+      earlier-at (s .middle) (s .front) (s .back) k
 
   pub turned : Turned kids R P Q gone qa qb
   turned = record { later = turned-later; earlier = turned-earlier }

@@ -15,8 +15,8 @@ use Rattle.machine.specs.declared.Edited as Edited
 use Rattle.laws.specs.Lists.{All-append}
 use Rattle.laws.specs.Grouped.{concat, twelve-words}
 use Rattle.laws.specs.Layout.{read-length, read-fit, fit-words, length-parts, layOut-read}
-use Rattle.moves.specs.Over.{removed, rotated}
-use Rattle.moves.proofs.Records.{Twelve, twelve-take, twelve-drop, remove-laid, rotate-laid}
+use Rattle.moves.specs.Over.{removed, rotated, Twelve}
+use Rattle.moves.proofs.Records.{twelve-take, twelve-drop, remove-laid, rotate-laid}
 use Rattle.seek.specs.Seek.{Good, held, span, spanOf}
 use Rattle.seek.specs.declared.Span as Span
 use Rattle.joins.specs.Join.{joinOn, join, cutTurned, Turns}

@@ -18,7 +18,7 @@ use Rattle.machine.specs.declared.LookedUp.the-variants.{At, NotFound, Refused}
 use Rattle.machine.specs.declared.Refusal.the-variants.{BadIdentifier}
 use Rattle.machine.specs.declared.RecordNumbers.{RecordNumbers}
 use Rattle.laws.specs.Grouped.{group-flats}
-use Rattle.seek.specs.Seek.{Good, Within, held, between, run, spanOf}
+use Rattle.seek.specs.Seek.{Good, Within, held, recordsIn, descendants, spanOf}
 use Rattle.seek.proofs.Below.{under, flat-root}
 use Rattle.seek.proofs.Laws.{whole-within, whole-records}
 use Rattle.seek.specs.declared.Span as Span
@@ -57,7 +57,7 @@ sits k serial o n (t ∷ ts) u e = go (wanted k serial o t) (sits k serial o (n 
 record Inside (k : ℕ) (w : List ℕ) (u : ℕ × Branch (suc k)) (start stop : ℕ) : Type 0 where
   number : u .0 ≡ start
   within : Within (start + 1) stop w
-  below : between (start + 1) stop w ≡ bind (flat k) (u .1 .1)
+  below : recordsIn (start + 1) stop w ≡ bind (flat k) (u .1 .1)
 
 -- what first_in finds among its children
 record Down (k serial : ℕ) (o : Optional) (w : List ℕ) (u : ℕ × Branch (suc k)) (start stop : ℕ) : Type 0 where
@@ -67,7 +67,7 @@ record Down (k serial : ℕ) (o : Optional) (w : List ℕ) (u : ℕ × Branch (s
   last : stop ≡ start + size k (child .1)
 
 module _ (k : ℕ) (l : k ≤ 3) (w : List ℕ) (u : ℕ × Branch (suc k)) (start stop : ℕ) (i : Inside k w u start stop) where
-  children : group k (between (start + 1) stop w) ≡ u .1 .1
+  children : group k (recordsIn (start + 1) stop w) ≡ u .1 .1
   children = ap (group k) (i .below) ∙ group-flats k (omega arith) (u .1 .1)
 
   inside-level : Level k (start + 1) stop w
@@ -106,7 +106,7 @@ inside-down k serial o w u start stop i from end d =
     let r = words (suc k) (t .0) in
     let b = under (suc k) t in
     let h : length (s .pre ++ (r ∷ [])) ≡ suc (length (s .pre)) = omega (arith, length-append (s .pre) (r ∷ [])) in
-    let e : between (start + 1) stop w ≡ (s .pre ++ (r ∷ [])) ++ (b ++ s .post) = i .below ∙ s .was ∙ rw (flat-root (suc k) t) (sym (append-assoc (s .pre) (r ∷ []) (b ++ s .post))) in
+    let e : recordsIn (start + 1) stop w ≡ (s .pre ++ (r ∷ [])) ++ (b ++ s .post) = i .below ∙ s .was ∙ rw (flat-root (suc k) t) (sym (append-assoc (s .pre) (r ∷ []) (b ++ s .post))) in
     let p = part w (start + 1) stop (from + 1) (s .pre ++ (r ∷ [])) (b ++ s .post) (i .within .order) e (omega (arith, i .number, s .number, d .number)) in
     let n : end ≡ from + 1 + length b = omega (arith, d .last, ap length (flat-root (suc k) t)) in
     let q = part w (from + 1) stop end b (s .post) (p .high) (p .after) n in
@@ -119,10 +119,10 @@ record First (w : List ℕ) (stop : ℕ) : Type 0 where
   is : held w ≡ model ∷ more
   inside : Inside 3 w (0, model) 0 stop
 
-first : (w : List ℕ) → Good w → (count : ℕ) → count ≡ length (records (held w)) → (count ≡ 0 → ⊥) → (stop : ℕ) → stop ≡ 1 + run 1 (between 1 count w) → First w stop
+first : (w : List ℕ) → Good w → (count : ℕ) → count ≡ length (records (held w)) → (count ≡ 0 → ⊥) → (stop : ℕ) → stop ≡ 1 + descendants 1 (recordsIn 1 count w) → First w stop
 unfolding flat
 first w g count c n stop e =
-    let q : between 0 count w ≡ records (held w) = ap (λ (x : ℕ). between 0 x w) c ∙ whole-records w g in
+    let q : recordsIn 0 count w ≡ records (held w) = ap (λ (x : ℕ). recordsIn 0 x w) c ∙ whole-records w g in
     let t = next 4 (omega arith) w count 0 stop (held w) (omega arith) q e in
     let b = whole-within w g .room in
     record {
@@ -144,13 +144,13 @@ module _ (w : List ℕ) (serial flag : ℕ) (text : List ℕ) where
   module _ (small : flag ≤ 1) (g : Good w) (count : ℕ) (c : count ≡ length (records (held w))) where
     pub no-model : count ≡ 0 → lookedUpNumbers NotFound ≡ answer serial o (held w)
     no-model z =
-        let e : held w ≡ [] = none-left 4 (held w) (ap (λ (x : ℕ). between 0 x w) (sym z ∙ c) ∙ whole-records w g) in
+        let e : held w ≡ [] = none-left 4 (held w) (ap (λ (x : ℕ). recordsIn 0 x w) (sym z ∙ c) ∙ whole-records w g) in
         rw (le-leb flag 1 small, e)
 
     pub after-first : (count ≡ 0 → ⊥) → Within 1 count w
     after-first n = record { order = omega arith; room = rw c (whole-within w g .room) }
 
-    module _ (n : count ≡ 0 → ⊥) (end₀ : ℕ) (e : end₀ ≡ 1 + run 1 (between 1 count w)) where
+    module _ (n : count ≡ 0 → ⊥) (end₀ : ℕ) (e : end₀ ≡ 1 + descendants 1 (recordsIn 1 count w)) where
       top : First w end₀
       top = first w g count c n end₀ e
 

@@ -16,8 +16,8 @@ use Rattle.machine.specs.Find.{size}
 use Rattle.machine.specs.Edit.{root}
 use Rattle.machine.specs.Lookup.{numbered, serials}
 use Rattle.laws.specs.Grouped.{words-kind, chunks-length}
-use Rattle.seek.specs.Seek.{Within, recordAt, between, run, atChild, toEnd, spanAt, spanOf}
-use Rattle.seek.proofs.Below.{chunks-take, between-cons, between-nil, child-here, child-span, under, flat-root}
+use Rattle.seek.specs.Seek.{Within, recordAt, recordsIn, descendants, atChild, toEnd, spanAt, spanOf}
+use Rattle.seek.proofs.Below.{chunks-take, recordsIn-cons, recordsIn-nil, child-here, child-span, under, flat-root}
 use Rattle.seek.specs.declared.Span as Span
 use Rattle.lookup.specs.Level.{wanted, firstWanted, Level, spanWanted, atomSerials, wantedRecords}
 use Rattle.lookup.proofs.Serials.{atoms-append}
@@ -56,16 +56,16 @@ pub record Next (k : ℕ) (w : List ℕ) (end at stop : ℕ) (left : List (Branc
   pub past : at < stop
   pub high : stop ≤ end
   pub own : recordAt at w ≡ words k (root k branch)
-  pub below : between (at + 1) stop w ≡ under k branch
-  pub rest : between stop end w ≡ bind (flat k) more
+  pub below : recordsIn (at + 1) stop w ≡ under k branch
+  pub rest : recordsIn stop end w ≡ bind (flat k) more
 
 -- a part of the records, by what stands before and after it
 pub record Part (w : List ℕ) (from end stop : ℕ) (b rest : List Words) : Type 0 where
   pub high : stop ≤ end
-  pub is : between from stop w ≡ b
-  pub after : between stop end w ≡ rest
+  pub is : recordsIn from stop w ≡ b
+  pub after : recordsIn stop end w ≡ rest
 
-pub part : (w : List ℕ) (from end stop : ℕ) (b rest : List Words) → from ≤ end → between from end w ≡ b ++ rest → stop ≡ from + length b → Part w from end stop b rest
+pub part : (w : List ℕ) (from end stop : ℕ) (b rest : List Words) → from ≤ end → recordsIn from end w ≡ b ++ rest → stop ≡ from + length b → Part w from end stop b rest
 part w from end stop b rest o e s =
     let c = chunks end w in
     let m = chunks-length end w in
@@ -79,25 +79,25 @@ part w from end stop b rest o e s =
     }
 
 -- where a branch's records end
-stop-at : (g k : ℕ) → g + k ≡ 4 → (at : ℕ) (t : Branch k) (more : List (Branch k)) → suc at + run (suc g) (under k t ++ bind (flat k) more) ≡ at + size k t
+stop-at : (g k : ℕ) → g + k ≡ 4 → (at : ℕ) (t : Branch k) (more : List (Branch k)) → suc at + descendants (suc g) (under k t ++ bind (flat k) more) ≡ at + size k t
 unfolding numbered spanAt
 stop-at g k l at t more =
     let rs = under k t ++ bind (flat k) more in
-    let a : atChild (suc g) 0 (toEnd (suc g)) at (words k (root k t) ∷ rs) ≡ some (at, suc at + run (suc g) rs) = child-here (suc g) (toEnd (suc g)) at (words k (root k t)) rs (omega (arith, words-kind k (omega arith) (root k t))) in
+    let a : atChild (suc g) 0 (toEnd (suc g)) at (words k (root k t) ∷ rs) ≡ some (at, suc at + descendants (suc g) rs) = child-here (suc g) (toEnd (suc g)) at (words k (root k t)) rs (omega (arith, words-kind k (omega arith) (root k t))) in
     let b : atChild (suc g) 0 (toEnd (suc g)) at (words k (root k t) ∷ rs) ≡ some (at, at + suc (length (under k t))) = rw (append-nil, flat-root k t) at (child-span g k l 0 at (t ∷ more) [] tt) in
-    let c : _≡_ {A = ℕ × ℕ} (at, suc at + run (suc g) rs) (at, at + suc (length (under k t))) = cc in
+    let c : _≡_ {A = ℕ × ℕ} (at, suc at + descendants (suc g) rs) (at, at + suc (length (under k t))) = cc in
     ap (λ (z : ℕ × ℕ). z .1) c ∙ rw (flat-root k t)
 
-pub next : (k : ℕ) → k ≤ 4 → (w : List ℕ) (end at stop : ℕ) (left : List (Branch k)) → at < end → between at end w ≡ bind (flat k) left
-    → stop ≡ at + 1 + run (5 - k) (between (at + 1) end w) → Next k w end at stop left
-next k l w end at stop [] h e s = let z = ap length (sym (between-cons w end at h) ∙ e) in absurd (omega arith)
+pub next : (k : ℕ) → k ≤ 4 → (w : List ℕ) (end at stop : ℕ) (left : List (Branch k)) → at < end → recordsIn at end w ≡ bind (flat k) left
+    → stop ≡ at + 1 + descendants (5 - k) (recordsIn (at + 1) end w) → Next k w end at stop left
+next k l w end at stop [] h e s = let z = ap length (sym (recordsIn-cons w end at h) ∙ e) in absurd (omega arith)
 next k l w end at stop (t ∷ more) h e s =
     let rs = under k t ++ bind (flat k) more in
-    let q : recordAt at w ∷ between (at + 1) end w ≡ words k (root k t) ∷ rs = sym (between-cons w end at h) ∙ e ∙ rw (flat-root k t) in
+    let q : recordAt at w ∷ recordsIn (at + 1) end w ≡ words k (root k t) ∷ rs = sym (recordsIn-cons w end at h) ∙ e ∙ rw (flat-root k t) in
     let a : recordAt at w ≡ words k (root k t) = cc in
-    let b : between (at + 1) end w ≡ rs = cc in
+    let b : recordsIn (at + 1) end w ≡ rs = cc in
     let g : 5 - k ≡ suc (4 - k) = omega arith in
-    let z : suc at + run (suc (4 - k)) rs ≡ at + size k t = stop-at (4 - k) k (omega arith) at t more in
+    let z : suc at + descendants (suc (4 - k)) rs ≡ at + size k t = stop-at (4 - k) k (omega arith) at t more in
     let n : stop ≡ at + size k t = s ∙ rw (b, g) (omega arith) in
     let u : size k t ≡ suc (length (under k t)) = ap length (flat-root k t) in
     let p = part w (at + 1) end stop (under k t) (bind (flat k) more) (omega arith) b (omega arith) in
@@ -109,8 +109,8 @@ next k l w end at stop (t ∷ more) h e s =
 pub record Looked (k serial : ℕ) (o : Optional) (w : List ℕ) (from end at : ℕ) : Type 0 where
   pub high : at ≤ end
   pub left : List (Branch k)
-  pub rest : between at end w ≡ bind (flat k) left
-  pub same : firstWanted k serial o from (group k (between from end w)) ≡ firstWanted k serial o at left
+  pub rest : recordsIn at end w ≡ bind (flat k) left
+  pub same : firstWanted k serial o from (group k (recordsIn from end w)) ≡ firstWanted k serial o at left
 
 first-hit : (k serial : ℕ) (o : Optional) (n : ℕ) (t : Branch k) (ts : List (Branch k)) → wanted k serial o t ≡ true → firstWanted k serial o n (t ∷ ts) ≡ some (n, t)
 unfolding numbered
@@ -126,14 +126,14 @@ none-left k (t ∷ ts) e = absurd (omega (arith, ap length e, length-append (fla
 
 module _ (k serial : ℕ) (o : Optional) (w : List ℕ) (from end : ℕ) (p : Level k from end w) where
   pub looked-begin : Looked k serial o w from end from
-  looked-begin = record { high = p .within .order; left = group k (between from end w); rest = p .whole; same = refl }
+  looked-begin = record { high = p .within .order; left = group k (recordsIn from end w); rest = p .whole; same = refl }
 
   module _ (at : ℕ) (s : Looked k serial o w from end at) where
     pub looked-end : end ≤ at → Span.the-variants.Missing ≡ spanOf (spanWanted k serial o from end w)
     unfolding numbered
-    looked-end l = rw (s .same ∙ ap (firstWanted k serial o at) (none-left k (s .left) (sym (between-nil w end at l) ∙ s .rest)))
+    looked-end l = rw (s .same ∙ ap (firstWanted k serial o at) (none-left k (s .left) (sym (recordsIn-nil w end at l) ∙ s .rest)))
 
-    module _ (l : at < end) (stop : ℕ) (e : stop ≡ at + 1 + run (5 - k) (between (at + 1) end w)) where
+    module _ (l : at < end) (stop : ℕ) (e : stop ≡ at + 1 + descendants (5 - k) (recordsIn (at + 1) end w)) where
       here : Next k w end at stop (s .left)
       here = next k (omega (arith, p .level)) w end at stop (s .left) l (s .rest) e
 
@@ -143,16 +143,16 @@ module _ (k serial : ℕ) (o : Optional) (w : List ℕ) (from end : ℕ) (p : Le
           let b = p .within .room in
           record { order = omega (arith, h .past); room = omega (arith, h .high) }
 
-      asked : (r : Bool) → r ≡ wantedRecords k serial o (recordAt at w) (between (at + 1) stop w) → r ≡ wanted k serial o (here .branch)
+      asked : (r : Bool) → r ≡ wantedRecords k serial o (recordAt at w) (recordsIn (at + 1) stop w) → r ≡ wanted k serial o (here .branch)
       asked r f = f ∙ rw (here .own, here .below) (wanted-records k (p .level) serial o (here .branch))
 
-      pub looked-here : (r : Bool) → r ≡ wantedRecords k serial o (recordAt at w) (between (at + 1) stop w) → r ≡ true → Span.the-variants.At at stop ≡ spanOf (spanWanted k serial o from end w)
+      pub looked-here : (r : Bool) → r ≡ wantedRecords k serial o (recordAt at w) (recordsIn (at + 1) stop w) → r ≡ true → Span.the-variants.At at stop ≡ spanOf (spanWanted k serial o from end w)
       looked-here r f t =
           let h = here in
-          let q : firstWanted k serial o from (group k (between from end w)) ≡ some (at, h .branch) = s .same ∙ ap (firstWanted k serial o at) (h .left-is) ∙ first-hit k serial o at (h .branch) (h .more) (sym (asked r f) ∙ t) in
+          let q : firstWanted k serial o from (group k (recordsIn from end w)) ≡ some (at, h .branch) = s .same ∙ ap (firstWanted k serial o at) (h .left-is) ∙ first-hit k serial o at (h .branch) (h .more) (sym (asked r f) ∙ t) in
           ap (λ (n : ℕ). Span.the-variants.At at n) (h .stop-is) ∙ rw q
 
-      pub looked-on : (r : Bool) → r ≡ wantedRecords k serial o (recordAt at w) (between (at + 1) stop w) → r ≡ false → Looked k serial o w from end stop
+      pub looked-on : (r : Bool) → r ≡ wantedRecords k serial o (recordAt at w) (recordsIn (at + 1) stop w) → r ≡ false → Looked k serial o w from end stop
       looked-on r f t =
           let h = here in
           record {

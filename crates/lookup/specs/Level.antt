@@ -14,7 +14,7 @@ use Rattle.machine.specs.Store.{Branch, Machine, flat, group}
 use Rattle.machine.specs.Find.{size}
 use Rattle.machine.specs.Lookup.{numbered, firstOf, serials, spans, hasAtom, inFirst, lookedUp}
 use Rattle.machine.specs.declared.Name.the-variants.{AlternativeLocation}
-use Rattle.seek.specs.Seek.{Within, between}
+use Rattle.seek.specs.Seek.{Within, recordsIn}
 
 -- ---- over the machine
 
@@ -37,12 +37,12 @@ firstWanted k serial o n ts = firstOf (λ u. wanted k serial o (u .1)) (numbered
 pub record Level (k from end : ℕ) (w : List ℕ) : Type 0 where
   pub level : k ≤ 3
   pub within : Within from end w
-  pub whole : between from end w ≡ bind (flat k) (group k (between from end w))
+  pub whole : recordsIn from end w ≡ bind (flat k) (group k (recordsIn from end w))
 
 -- the span of the first that is wanted
 abbrev pub spanWanted : (k : ℕ) → ℕ → Optional → ℕ → ℕ → List ℕ → Option (ℕ × ℕ)
 spanWanted k serial o from end w =
-    andThen (firstWanted k serial o from (group k (between from end w))) (λ t. some (t .0, t .0 + size k (t .1)))
+    andThen (firstWanted k serial o from (group k (recordsIn from end w))) (λ t. some (t .0, t .0 + size k (t .1)))
 
 -- ---- over the records
 

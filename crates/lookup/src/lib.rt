@@ -7,7 +7,7 @@ ghost use Rattle.machine.specs.Lists.{any, lastOf};
 ghost use Rattle.machine.specs.Answer.{lookedUpNumbers};
 ghost use Rattle.machine.specs.Text.{optionalOf};
 ghost use Rattle.machine.specs.Lookup.{spans};
-ghost use Rattle.seek.specs.Seek.{Good, Within, held, recordAt, between, spanOf};
+ghost use Rattle.seek.specs.Seek.{Good, Within, held, recordAt, recordsIn, spanOf};
 ghost use Rattle.lookup.specs.Level.{answer, Level, spanWanted, atomSerials, wantedRecords};
 use machine::LookedUp;
 use machine::Record;
@@ -18,7 +18,7 @@ use seek::Span;
 // The serial of the last atom among the records from `from` up to `end`; `first` where there is none.
 fn last_serial(store: &[u64], from: usize, end: usize, first: u64) -> u64
     requires { ⌜ Within from end (now store) ⌝ }
-    ensures { λ r. ⌜ r ≡ lastOf first (atomSerials (between from end (now (store .entry)))) ⌝ }
+    ensures { λ r. ⌜ r ≡ lastOf first (atomSerials (recordsIn from end (now (store .entry)))) ⌝ }
 {
     let mut at: usize = end;
     while from < at {
@@ -34,7 +34,7 @@ fn last_serial(store: &[u64], from: usize, end: usize, first: u64) -> u64
 // "With atoms whose first to last serial spans the number".
 fn spans_serial(store: &[u64], from: usize, end: usize, serial: u64) -> bool
     requires { ⌜ Within from end (now store) ⌝ }
-    ensures { λ r. ⌜ r ≡ spans serial (atomSerials (between from end (now (store .entry)))) ⌝ }
+    ensures { λ r. ⌜ r ≡ spans serial (atomSerials (recordsIn from end (now (store .entry)))) ⌝ }
 {
     let mut at: usize = from;
     while at < end {
@@ -54,7 +54,7 @@ fn spans_serial(store: &[u64], from: usize, end: usize, serial: u64) -> bool
 // Whether an atom among the records has the serial.
 fn has_serial(store: &[u64], from: usize, end: usize, serial: u64) -> bool
     requires { ⌜ Within from end (now store) ⌝ }
-    ensures { λ r. ⌜ r ≡ any (eqb serial) (atomSerials (between from end (now (store .entry)))) ⌝ }
+    ensures { λ r. ⌜ r ≡ any (eqb serial) (atomSerials (recordsIn from end (now (store .entry)))) ⌝ }
 {
     let mut at: usize = from;
     while at < end {
@@ -82,7 +82,8 @@ fn is_wanted(
     location: &[u8],
 ) -> bool
     requires { ⌜ Within (at + 1) stop (now store) ⌝ }
-    ensures { λ r. ⌜ r ≡ wantedRecords level serial (optionalOf flag (now (location .entry))) (recordAt at (now (store .entry))) (between (at + 1) stop (now (store .entry))) ⌝ }
+    ensures { λ r. ⌜ r ≡ wantedRecords level serial (optionalOf flag (now (location .entry))) (recordAt at (now (store .entry)))
+        (recordsIn (at + 1) stop (now (store .entry))) ⌝ }
 {
     let word = at * Record::WIDTH;
     if level == 0 {

@@ -7,13 +7,10 @@ use lib.ListN.{length, take, drop, getD, set, replicate, length-append, length-t
 use lib.Seq.{length-take-le, take-at, drop-at, drop-cons, set-at}
 use Rattle.machine.specs.Record.{Words}
 use Rattle.machine.specs.Store.{laid}
-use Rattle.laws.specs.Lists.{All, All-append, All-left, All-right, bind-append}
+use Rattle.laws.specs.Lists.{All-append, All-left, All-right, bind-append}
 use Rattle.laws.specs.Grouped.{concat, concat-length}
-use Rattle.moves.specs.Over.{over, part, removed, gapped, rotated}
+use Rattle.moves.specs.Over.{over, part, removed, gapped, rotated, Twelve}
 use Rattle.moves.proofs.Laws.{part-length, rotated-length, split-two, split-three, over-length, over-at, removed-at, gapped-at, rotated-at}
-
-abbrev pub Twelve : List Words → Type 0
-Twelve rs = All (λ r. length r ≡ 12) rs
 
 pub twelve-take : (x : ℕ) (rs : List Words) → Twelve rs → Twelve (take x rs)
 twelve-take x rs t = All-left _ (take x rs) (drop x rs) (rw take-append-drop t)

@@ -1,7 +1,10 @@
 -- What the contracts of `src/` cite: a list written over another, and parts of a list that change places. Assumes nothing.
 use Prim.Native.Nat.{ℕ, _+_, _-_}
+use mathlib.Core.Path.{_≡_}
 use mathlib.Core.List.{List, _++_, reverse}
 use lib.ListN.{length, take, drop, replicate}
+use Rattle.machine.specs.Record.{Words}
+use Rattle.laws.specs.Lists.{All}
 
 -- of words, and in the laws of records too
 module _ {A : Type 0} where
@@ -28,3 +31,7 @@ removed from to end s = take from s ++ (part to end s ++ (replicate (to - from) 
 -- s with n zeros put in at `at`, where the words up to `end` move up over the n that follow `end`
 unfoldable pub gapped : ℕ → ℕ → ℕ → List ℕ → List ℕ
 gapped at n end s = take at s ++ (replicate n 0 ++ (part at end s ++ drop (end + n) s))
+
+-- records of twelve words each
+abbrev pub Twelve : List Words → Type 0
+Twelve rs = All (λ r. length r ≡ 12) rs

@@ -19,8 +19,8 @@ use Rattle.laws.specs.Lists.{length-bind}
 use Rattle.laws.specs.Good.{Fit}
 use Rattle.laws.specs.Layout.{read-layOut}
 use Rattle.laws.specs.Steps.{step-keeps, refusal-number}
-use Rattle.demands.specs.Demand.{demand3, opened-length, store-step}
-use Rattle.demands.specs.Runs.{run-listed}
+use Rattle.demands.proofs.Demand.{demand3, opened-length, store-step}
+use Rattle.demands.proofs.Runs.{run-listed}
 use Rattle.pdbtbx.specs.Structs.{PDB}
 use Rattle.pdbtbx.specs.Words.{structOf, pdbOf, machineFrom}
 use Rattle.pdbtbx.specs.Find.{countOf, findIn}

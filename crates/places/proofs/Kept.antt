@@ -17,7 +17,7 @@ use Rattle.machine.specs.Edit.{Prepare, first, last, pick}
 use Rattle.laws.specs.Lists.{All, All-map, All-append, All-left, All-right, and-both}
 use Rattle.laws.specs.Grouped.{chunks-length}
 use Rattle.laws.specs.Layout.{read-parts}
-use Rattle.seek.specs.Seek.{held, Good, Within, recordAt, between, run, child, childSpan, span, spanOf}
+use Rattle.seek.specs.Seek.{held, Good, Within, recordAt, recordsIn, descendants, child, childSpan, span, spanOf}
 use Rattle.seek.proofs.Below.{chunks-take}
 use Rattle.seek.specs.declared.Span as Span
 use Rattle.places.specs.Pick.{keyOf, marks, pickSpan}
@@ -25,7 +25,7 @@ use Rattle.places.specs.Place.{rank, chainKey, Ranked, Kept, Known, Land
 use Rattle.places.specs.declared.Place as Place
 use Rattle.places.specs.declared.Spot as Spot
 use Rattle.places.proofs.Picks.{unmarked}
-use Rattle.places.proofs.Spans.{to-span, not-found, child-front, pick-front, pick-fresh, pick-none, pick-last, span-put, Inside, picked-inside, model-inside, model-span, between-split, run-whole}
+use Rattle.places.proofs.Spans.{to-span, not-found, child-front, pick-front, pick-fresh, pick-none, pick-last, span-put, Inside, picked-inside, model-inside, model-span, recordsIn-split, descendants-whole}
 
 -- ---- a place put to use
 
@@ -53,14 +53,14 @@ module _ (p : Place.Place) (w : List ℕ) (k : Known p w) where
       rw f
 
   pub chain-known : (start end id : ℕ) (text : List ℕ) → ((p .known && eqb (p .start) start) && eqb (p .«model_end») end) && eqb (p .id) id ≡ true
-      → Span.the-variants.At (p .chain) (p .«chain_end») ≡ spanOf (pickSpan 2 (keyOf false id 0 text) (start + 1) (between (start + 1) end w))
+      → Span.the-variants.At (p .chain) (p .«chain_end») ≡ spanOf (pickSpan 2 (keyOf false id 0 text) (start + 1) (recordsIn (start + 1) end w))
   chain-known start end id text h =
       let b = and-both ((p .known && eqb (p .start) start) && eqb (p .«model_end») end) (eqb (p .id) id) h in
       let c = all-three (p .known) (eqb (p .start) start) (eqb (p .«model_end») end) (b .0) in
       let x : p .start ≡ start = eqb-true _ _ (c .1) in
       let y : p .«model_end» ≡ end = eqb-true _ _ (c .2) in
       let z : p .id ≡ id = eqb-true _ _ (b .1) in
-      let e : pickSpan 2 (keyOf false id 0 text) (start + 1) (between (start + 1) end w) ≡ some (p .chain, p .«chain_end») = rw (← x, ← y, ← z) (k (c .0) .chain) in
+      let e : pickSpan 2 (keyOf false id 0 text) (start + 1) (recordsIn (start + 1) end w) ≡ some (p .chain, p .«chain_end») = rw (← x, ← y, ← z) (k (c .0) .chain) in
       rw e
 
 unranked : (top serial flag : ℕ) (code : List ℕ) (r : Words) → top < rank serial → Ranked top r → marks 3 (keyOf true serial flag code) r ≡ false
@@ -73,7 +73,7 @@ unranked top serial flag code r l k = go (eqb (kind r) 3) refl
 module _ (p : Place.Place) (w : List ℕ) (k : Known p w) (chain end serial flag : ℕ) (code : List ℕ) (b : Within (chain + 1) end w)
     (h : (p .known && eqb (p .chain) chain) && eqb (p .«chain_end») end ≡ true) where
   abbrev residues : Option (ℕ × ℕ)
-  residues = pickSpan 3 (keyOf true serial flag code) (chain + 1) (between (chain + 1) end w)
+  residues = pickSpan 3 (keyOf true serial flag code) (chain + 1) (recordsIn (chain + 1) end w)
 
   same-chain : Kept p w × (p .chain ≡ chain) × (p .«chain_end» ≡ end)
   same-chain = let c = all-three (p .known) (eqb (p .chain) chain) (eqb (p .«chain_end») end) h in (k (c .0), eqb-true _ _ (c .1), eqb-true _ _ (c .2))
@@ -91,9 +91,9 @@ module _ (p : Place.Place) (w : List ℕ) (k : Known p w) (chain end serial flag
       let v = c .2 in
       let mark = marks 3 (keyOf true serial flag code) in
       let r : Words = recordAt (p .residue) w in
-      let rest : List Words = between (p .residue + 1) end w in
+      let rest : List Words = recordsIn (p .residue + 1) end w in
       let above : All (λ x. 3 < kind x) rest = rw (← v) (kept .last) in
-      let s = between-split w (chain + 1) end (p .residue) (omega arith) (omega arith) in
+      let s = recordsIn-split w (chain + 1) end (p .residue) (omega arith) (omega arith) in
       let a = s .0 in
       let n = s .1 in
       let o : pick last mark (a ++ (r ∷ rest)) ≡ some (length a) = pick-last mark a r rest (sym d ∙ t) (All-map (unmarked 3 (keyOf true serial flag code)) rest above) in
@@ -101,16 +101,16 @@ module _ (p : Place.Place) (w : List ℕ) (k : Known p w) (chain end serial flag
       let after : drop (suc (length a)) (a ++ (r ∷ rest)) ≡ rest = ap (λ (i : ℕ). drop i (a ++ (r ∷ rest))) j ∙ drop-append-add a (r ∷ rest) 1 in
       let e : residues ≡ some (p .residue, end) =
       rw (s .2) (to-span 3 (chain + 1) (pick last mark (a ++ (r ∷ rest))) (a ++ (r ∷ rest)) (p .residue) end
-      (record { offset = length a; there = o; number = omega arith; ends = rw (after, run-whole 3 rest above) (omega (arith, length-drop (p .residue + 1) (chunks end w), chunks-length end w)) })) in
+      (record { offset = length a; there = o; number = omega arith; ends = rw (after, descendants-whole 3 rest above) (omega (arith, length-drop (p .residue + 1) (chunks end w), chunks-length end w)) })) in
       rw e
 
   pub residue-new : (x : ℕ) → x ≡ rank serial → p .topped && ltb (p .top) x ≡ true → Span.the-variants.Missing ≡ spanOf residues
   residue-new x d t =
       let c = same-chain in
       let both = and-both (p .topped) (ltb (p .top) x) t in
-      let ranks : All (Ranked (p .top)) (between (chain + 1) end w) = rw (← c .1, ← c .2) (c .0 .top (both .0)) in
+      let ranks : All (Ranked (p .top)) (recordsIn (chain + 1) end w) = rw (← c .1, ← c .2) (c .0 .top (both .0)) in
       let l = ltb-true (p .top) x (both .1) in
-      rw (pick-none (marks 3 (keyOf true serial flag code)) (between (chain + 1) end w) (All-map (λ r q. unranked (p .top) serial flag code r (omega arith) q) (between (chain + 1) end w) ranks))
+      rw (pick-none (marks 3 (keyOf true serial flag code)) (recordsIn (chain + 1) end w) (All-map (λ r q. unranked (p .top) serial flag code r (omega arith) q) (recordsIn (chain + 1) end w) ranks))
 
 -- ---- a place kept
 
@@ -120,16 +120,16 @@ module _ {at : ℕ} {new : List Words} {w w′ : List ℕ} (g : Grown at new w w
   later e = take (e - at) (g .back)
 
   module _ (e : ℕ) (low : at ≤ e) (high : e ≤ length (recordsOf w)) where
-    pub between-was : (s : ℕ) → s ≤ at → between s e w ≡ drop s (g .front) ++ later e
-    between-was s l =
+    pub recordsIn-was : (s : ℕ) → s ≤ at → recordsIn s e w ≡ drop s (g .front) ++ later e
+    recordsIn-was s l =
         let n = g .number in
         let c : chunks e w ≡ take e (recordsOf w) = chunks-take e (Store.end w / 12) w (omega (arith, chunks-length (Store.end w / 12) w)) in
         let q : e ≡ length (g .front) + (e - at) = omega arith in
         let t : take e (g .front ++ g .back) ≡ g .front ++ later e = ap (λ (i : ℕ). take i (g .front ++ g .back)) q ∙ take-append-add (g .front) (g .back) (e - at) in
         rw (c, g .was, t) (drop-append-le s (g .front) (later e) (omega arith))
 
-    pub between-is : (s : ℕ) → between s (e + length new) w′ ≡ drop s (g .front ++ (new ++ later e))
-    between-is s =
+    pub recordsIn-is : (s : ℕ) → recordsIn s (e + length new) w′ ≡ drop s (g .front ++ (new ++ later e))
+    recordsIn-is s =
         let n = g .number in
         let f = g .front in
         let b = g .back in
@@ -142,28 +142,28 @@ module _ {at : ℕ} {new : List Words} {w w′ : List ℕ} (g : Grown at new w w
         ap (λ (i : ℕ). take i (f ++ (new ++ b))) q ∙ take-append-add f (new ++ b) (length new + (e - at)) ∙ ap (λ (rs : List Words). f ++ rs) (take-append-add new b (e - at)) in
         rw (c, g .is, t)
 
-    pub between-put : (s : ℕ) → s ≤ at → between s (e + length new) w′ ≡ drop s (g .front) ++ (new ++ later e)
-    between-put s l = let n = g .number in between-is s ∙ drop-append-le s (g .front) (new ++ later e) (omega arith)
+    pub recordsIn-put : (s : ℕ) → s ≤ at → recordsIn s (e + length new) w′ ≡ drop s (g .front) ++ (new ++ later e)
+    recordsIn-put s l = let n = g .number in recordsIn-is s ∙ drop-append-le s (g .front) (new ++ later e) (omega arith)
 
     -- what holds of records around holds with the new ones
-    pub all-put : (P : Words → Type 0) (s : ℕ) → s ≤ at → All P (between s e w) → All P new → All P (between s (e + length new) w′)
+    pub all-put : (P : Words → Type 0) (s : ℕ) → s ≤ at → All P (recordsIn s e w) → All P new → All P (recordsIn s (e + length new) w′)
     all-put P s l h k =
         let a = drop s (g .front) in
-        let h′ : All P (a ++ later e) = rw (between-was s l) at h in
-        rw (between-put s l) (All-append P a (new ++ later e) (All-left P a (later e) h′) (All-append P new (later e) k (All-right P a (later e) h′)))
+        let h′ : All P (a ++ later e) = rw (recordsIn-was s l) at h in
+        rw (recordsIn-put s l) (All-append P a (new ++ later e) (All-left P a (later e) h′) (All-append P new (later e) k (All-right P a (later e) h′)))
 
   -- none stand after them
   pub later-none : (e : ℕ) → at ≡ e → later e ≡ []
   later-none e q = let z : e - at ≡ 0 = omega arith in rw z
 
   -- the new ones from one on
-  pub all-new : (P : Words → Type 0) (j x y : ℕ) → at ≤ length (recordsOf w) → x ≡ at + j → y ≡ at + length new → All P (drop j new) → All P (between x y w′)
+  pub all-new : (P : Words → Type 0) (j x y : ℕ) → at ≤ length (recordsOf w) → x ≡ at + j → y ≡ at + length new → All P (drop j new) → All P (recordsIn x y w′)
   all-new P j x y h q r k =
       let n = g .number in
       let i : at + j ≡ length (g .front) + j = omega arith in
       let z : drop (at + j) (g .front ++ (new ++ later at)) ≡ drop j new =
       ap (λ (m : ℕ). drop m (g .front ++ (new ++ later at))) i ∙ drop-append-add (g .front) (new ++ later at) j ∙ ap (λ (rs : List Words). drop j (new ++ rs)) (later-none at refl) ∙ ap (drop j) (append-nil new) in
-      rw (q, r, between-is at (omega arith) h (at + j), z) k
+      rw (q, r, recordsIn-is at (omega arith) h (at + j), z) k
 
 ranked-up : (x y : ℕ) → x ≤ y → (r : Words) → Ranked x r → Ranked y r
 ranked-up x y l r k q = omega (arith, k q)
@@ -224,21 +224,21 @@ module _ (w w′ : List ℕ) (n : Prepare) (v : Atom) (model start end id serial
       rw (q, g .is) (span-put 1 0 (child 1 model) (child-front 1 model) (g .front) new (g .back) start end (new-kinds 1 (omega arith)) (rw (g .was) at m) (omega arith) (omega arith))
 
   chain-kept : 1 ≤ s .depth → (stop edge : ℕ) → stop ≡ end + length new → edge ≡ s .«chain_end» + length new
-      → pickSpan 2 (chainKey id) (start + 1) (between (start + 1) stop w′) ≡ some (s .chain, edge)
+      → pickSpan 2 (chainKey id) (start + 1) (recordsIn (start + 1) stop w′) ≡ some (s .chain, edge)
   chain-kept d stop edge q r =
       let b = below-model in
       let i = g .number in
       let a = drop (start + 1) (g .front) in
       let o = l .low d in
       let u = l .high in
-      let was = between-was g end high all-records (start + 1) (omega arith) in
-      let is = between-put g end high all-records (start + 1) (omega arith) in
+      let was = recordsIn-was g end high all-records (start + 1) (omega arith) in
+      let is = recordsIn-put g end high all-records (start + 1) (omega arith) in
       let n = length-drop (start + 1) (g .front) in
       rw (q, r, is)
       (span-put 2 (start + 1) (pick first (marks 2 (chainKey id))) (pick-front (marks 2 (chainKey id))) a new (later g end) (s .chain) (s .«chain_end») (new-kinds 2 (omega arith)) (rw was at (l .chain d)) (omega arith) (omega arith))
 
-  chain-fresh : s .depth ≡ 0 → n .chain ≡ id → (stop : ℕ) → stop ≡ end + 4 → pickSpan 2 (chainKey id) (start + 1) (between (start + 1) stop w′) ≡ some (end, stop)
-  unfolding words run
+  chain-fresh : s .depth ≡ 0 → n .chain ≡ id → (stop : ℕ) → stop ≡ end + 4 → pickSpan 2 (chainKey id) (start + 1) (recordsIn (start + 1) stop w′) ≡ some (end, stop)
+  unfolding words descendants
   chain-fresh d e stop q =
       let b = below-model in
       let o = l .last d in
@@ -248,11 +248,11 @@ module _ (w w′ : List ℕ) (n : Prepare) (v : Atom) (model start end id serial
       let col : new ≡ column n serial v = ap (λ (k : ℕ). drop k (column n serial v)) d in
       let gone = later-none g end o in
       let r : stop ≡ end + length new = omega (arith, new-length) in
-      let was : between (start + 1) end w ≡ a = between-was g end high all-records (start + 1) (omega arith) ∙ rw gone (append-nil a) in
+      let was : recordsIn (start + 1) end w ≡ a = recordsIn-was g end high all-records (start + 1) (omega arith) ∙ rw gone (append-nil a) in
       let whole : new ++ later g end ≡ column n serial v = rw (gone, col) in
-      let put = between-put g end high all-records (start + 1) (omega arith) in
-      let is : between (start + 1) stop w′ ≡ a ++ column n serial v = rw r (put ∙ ap (λ (rs : List Words). a ++ rs) whole) in
-      let none-before : pick first mark a ≡ none = rw was at (not-found 2 (start + 1) (pick first mark (between (start + 1) end w)) (between (start + 1) end w) (l .missing d)) in
+      let put = recordsIn-put g end high all-records (start + 1) (omega arith) in
+      let is : recordsIn (start + 1) stop w′ ≡ a ++ column n serial v = rw r (put ∙ ap (λ (rs : List Words). a ++ rs) whole) in
+      let none-before : pick first mark a ≡ none = rw was at (not-found 2 (start + 1) (pick first mark (recordsIn (start + 1) end w)) (recordsIn (start + 1) end w) (l .missing d)) in
       let there = pick-fresh mark a (words 3 (record { id = n .chain })) (drop 1 (column n serial v)) none-before (rw (eq-eqb (n .chain) id e)) in
       let n₁ = length-drop (start + 1) (g .front) in
       let j : suc (length a) ≡ length a + 1 = omega arith in
@@ -317,9 +317,9 @@ moves-residue p model start end id serial s x y t h d w w′ n v e good k m l g 
           let q = all-three (p .known) (eqb (p .chain) (s .chain)) (eqb (p .«chain_end») (s .«chain_end»)) (c .0) in
           let f : p .chain ≡ s .chain = eqb-true _ _ (q .1) in
           let z : p .«chain_end» ≡ s .«chain_end» = eqb-true _ _ (q .2) in
-          let old : All (Ranked (p .top)) (between (s .chain + 1) (s .«chain_end») w) = rw (← f, ← z) (k (q .0) .top (c .1)) in
+          let old : All (Ranked (p .top)) (recordsIn (s .chain + 1) (s .«chain_end») w) = rw (← f, ← z) (k (q .0) .top (c .1)) in
           rw three
-          (all-put g (s .«chain_end») (omega arith) (omega arith) (Ranked y) (s .chain + 1) (omega arith) (All-map (ranked-up (p .top) y (h .0)) (between (s .chain + 1) (s .«chain_end») w) old)
+          (all-put g (s .«chain_end») (omega arith) (omega arith) (Ranked y) (s .chain + 1) (omega arith) (All-map (ranked-up (p .top) y (h .0)) (recordsIn (s .chain + 1) (s .«chain_end») w) old)
           (rw col ((λ j. omega arith), ((λ j. absurd (omega arith)), ((λ j. absurd (omega arith)), tt)))));
     }
 
@@ -356,7 +356,7 @@ moves-below p model start end id serial s d₀ d₁ w w′ n v e good k m l g kn
     let len = new-length w w′ n v model start end id serial s good m l g in
     let few : s .«chain_end» + 4 - s .depth ≡ s .«chain_end» + length (drop (s .depth) (column n serial v)) = omega arith in
     let kinds = new-kinds w w′ n v model start end id serial s good m l g 3 (omega arith) in
-    let last : All (λ r. 3 < kind r) (between (p .residue + 1) (s .«chain_end») w) = rw (← z) (old .last) in
+    let last : All (λ r. 3 < kind r) (recordsIn (p .residue + 1) (s .«chain_end») w) = rw (← z) (old .last) in
     record {
       model = model-kept w w′ n v model start end id serial s good m l g (end + 4 - s .depth) (omega arith);
       chain = chain-kept w w′ n v model start end id serial s good m l g one (end + 4 - s .depth) (s .«chain_end» + 4 - s .depth) (omega arith) (omega arith);
@@ -364,6 +364,6 @@ moves-below p model start end id serial s d₀ d₁ w w′ n v e good k m l g kn
       high = omega arith;
       last = rw few (all-put g (s .«chain_end») (omega arith) (omega arith) (λ r. 3 < kind r) (p .residue + 1) (omega arith) last kinds);
       top = λ b.
-          let ranks : All (Ranked (p .top)) (between (s .chain + 1) (s .«chain_end») w) = rw (← f, ← z) (old .top b) in
+          let ranks : All (Ranked (p .top)) (recordsIn (s .chain + 1) (s .«chain_end») w) = rw (← f, ← z) (old .top b) in
           rw few (all-put g (s .«chain_end») (omega arith) (omega arith) (Ranked (p .top)) (s .chain + 1) (omega arith) ranks (All-map (unranked-kind (p .top)) (drop (s .depth) (column n serial v)) kinds));
     }

@@ -16,8 +16,8 @@ use Rattle.machine.specs.Record.{Words}
 use Rattle.machine.specs.Store.{chunks}
 use Rattle.machine.specs.Edit.{Which, first, last, pick}
 use Rattle.laws.specs.Grouped.{chunks-length}
-use Rattle.seek.specs.Seek.{Within, recordAt, between, run, toEnd, spanOf}
-use Rattle.seek.proofs.Below.{record-word, record-kind, between-cons, between-nil}
+use Rattle.seek.specs.Seek.{Within, recordAt, recordsIn, descendants, toEnd, spanOf}
+use Rattle.seek.proofs.Below.{record-word, record-kind, recordsIn-cons, recordsIn-nil}
 use Rattle.seek.proofs.Laws.{at-span}
 use Rattle.seek.specs.declared.Span as Span
 use Rattle.places.specs.Pick.{Key, whichOf, keyOf, marks, pickStart, pickSpan, childOf, spotIn}
@@ -53,7 +53,7 @@ child-option Child.the-variants.Missing = refl
 -- what is found among the records left, or else the best so far
 pub record Searched (w : List ℕ) (from end h : ℕ) (key : Key) (at : ℕ) (best : Child.Child) : Type 0 where
   pub low : at ≤ end
-  pub same : pickStart h key from (between from end w) ≡ orElse (pickStart h key at (between at end w)) (optionOf best)
+  pub same : pickStart h key from (recordsIn from end w) ≡ orElse (pickStart h key at (recordsIn at end w)) (optionOf best)
 
 pub search-begin : (w : List ℕ) (from end h : ℕ) (key : Key) → Within from end w → Searched w from end h key from Child.the-variants.Missing
 search-begin w from end h key b = record { low = b .order; same = sym (or-none _) }
@@ -84,25 +84,25 @@ module _ (w : List ℕ) (from end h word flag : ℕ) (text : List ℕ) (b : Bool
   search-pass m d e =
       record {
         low = omega arith;
-        same = s .same ∙ rw (between-cons w end at l, start-pass h key at (recordAt at w) (between (at + 1) end w) (sym d ∙ e));
+        same = s .same ∙ rw (recordsIn-cons w end at l, start-pass h key at (recordAt at w) (recordsIn (at + 1) end w) (sym d ∙ e));
       }
 
   pub search-on : (m : Bool) → m ≡ marks h (keyOf false word flag text) (recordAt at w) → m ≡ true → b ≡ true → Searched w from end h key (at + 1) (Child.the-variants.At at)
   search-on m d e f =
       record {
         low = omega arith;
-        same = s .same ∙ rw (between-cons w end at l, start-last h at key (recordAt at w) (between (at + 1) end w) (optionOf best) (ap whichOf f) (sym d ∙ e));
+        same = s .same ∙ rw (recordsIn-cons w end at l, start-last h at key (recordAt at w) (recordsIn (at + 1) end w) (optionOf best) (ap whichOf f) (sym d ∙ e));
       }
 
-  pub search-hit : (m : Bool) → m ≡ marks h (keyOf false word flag text) (recordAt at w) → m ≡ true → b ≡ false → Child.the-variants.At at ≡ childOf (pickStart h key from (between from end w))
+  pub search-hit : (m : Bool) → m ≡ marks h (keyOf false word flag text) (recordAt at w) → m ≡ true → b ≡ false → Child.the-variants.At at ≡ childOf (pickStart h key from (recordsIn from end w))
   search-hit m d e f =
-      let q : pickStart h key from (between from end w) ≡ some at =
-      s .same ∙ rw (between-cons w end at l, start-first h at key (recordAt at w) (between (at + 1) end w) (ap whichOf f) (sym d ∙ e)) in
+      let q : pickStart h key from (recordsIn from end w) ≡ some at =
+      s .same ∙ rw (recordsIn-cons w end at l, start-first h at key (recordAt at w) (recordsIn (at + 1) end w) (ap whichOf f) (sym d ∙ e)) in
       rw q
 
-pub search-end : (w : List ℕ) (from end h : ℕ) (key : Key) (at : ℕ) (best : Child.Child) → Searched w from end h key at best → end ≤ at → best ≡ childOf (pickStart h key from (between from end w))
+pub search-end : (w : List ℕ) (from end h : ℕ) (key : Key) (at : ℕ) (best : Child.Child) → Searched w from end h key at best → end ≤ at → best ≡ childOf (pickStart h key from (recordsIn from end w))
 search-end w from end h key at best s l =
-    let q : pickStart h key from (between from end w) ≡ optionOf best = s .same ∙ rw (between-nil w end at l) (go (key .which)) in
+    let q : pickStart h key from (recordsIn from end w) ≡ optionOf best = s .same ∙ rw (recordsIn-nil w end at l) (go (key .which)) in
     rw q (sym (child-option best))
   where
     go : (v : Which) → orElse (andThen (pick v (marks h key) []) (λ i. some (at + i))) (optionOf best) ≡ optionOf best
@@ -114,23 +114,23 @@ search-end w from end h key at best s l =
 -- the record found, by its offset
 pub record Met (h : ℕ) (key : Key) (from end : ℕ) (w : List ℕ) (at : ℕ) : Type 0 where
   pub offset : ℕ
-  pub there : pick (key .which) (marks h key) (between from end w) ≡ some offset
+  pub there : pick (key .which) (marks h key) (recordsIn from end w) ≡ some offset
   pub number : from + offset ≡ at
   pub below : at < end
 
-module _ (w : List ℕ) (h : ℕ) (key : Key) (from end : ℕ) (r : Child.Child) (e : r ≡ childOf (pickStart h key from (between from end w))) where
-  pub pick-missing : r ≡ Child.the-variants.Missing → Span.the-variants.Missing ≡ spanOf (pickSpan h key from (between from end w))
-  pick-missing m = go (pick (key .which) (marks h key) (between from end w)) (sym e ∙ m)
+module _ (w : List ℕ) (h : ℕ) (key : Key) (from end : ℕ) (r : Child.Child) (e : r ≡ childOf (pickStart h key from (recordsIn from end w))) where
+  pub pick-missing : r ≡ Child.the-variants.Missing → Span.the-variants.Missing ≡ spanOf (pickSpan h key from (recordsIn from end w))
+  pick-missing m = go (pick (key .which) (marks h key) (recordsIn from end w)) (sym e ∙ m)
     where
-      go : (o : Option ℕ) → childOf (andThen o (λ i. some (from + i))) ≡ Child.the-variants.Missing → Span.the-variants.Missing ≡ spanOf (andThen o (λ i. toEnd h (from + i) (drop (suc i) (between from end w))))
+      go : (o : Option ℕ) → childOf (andThen o (λ i. some (from + i))) ≡ Child.the-variants.Missing → Span.the-variants.Missing ≡ spanOf (andThen o (λ i. toEnd h (from + i) (drop (suc i) (recordsIn from end w))))
       go none q = refl
       go (some i) q = let z : _≡_ {A = ℕ} 0 1 = cc in absurd (omega arith)
 
   module _ (at : ℕ) (b : Within from end w) (m : r ≡ Child.the-variants.At at) where
     met : Met h key from end w at
-    met = go (pick (key .which) (marks h key) (between from end w)) refl (sym e ∙ m)
+    met = go (pick (key .which) (marks h key) (recordsIn from end w)) refl (sym e ∙ m)
       where
-        go : (o : Option ℕ) → pick (key .which) (marks h key) (between from end w) ≡ o → childOf (andThen o (λ i. some (from + i))) ≡ Child.the-variants.At at → Met h key from end w at
+        go : (o : Option ℕ) → pick (key .which) (marks h key) (recordsIn from end w) ≡ o → childOf (andThen o (λ i. some (from + i))) ≡ Child.the-variants.At at → Met h key from end w at
         go none q p = let z : _≡_ {A = ℕ} 0 1 = cc in absurd (omega arith)
         go (some i) q p =
             let n : from + i ≡ at = cc in
@@ -138,16 +138,16 @@ module _ (w : List ℕ) (h : ℕ) (key : Key) (from end : ℕ) (r : Child.Child)
               offset = i;
               there = q;
               number = n;
-              below = omega (arith, b .order, pick-within (marks h key) (key .which) (between from end w) i q, length-drop from (chunks end w), chunks-length end w);
+              below = omega (arith, b .order, pick-within (marks h key) (key .which) (recordsIn from end w) i q, length-drop from (chunks end w), chunks-length end w);
             }
 
     pub pick-after : Within (at + 1) end w
     pick-after = record { order = omega (arith, met .below); room = b .room }
 
-    pub pick-is : (stop : ℕ) → stop ≡ at + 1 + run h (between (at + 1) end w) → Span.the-variants.At at stop ≡ spanOf (pickSpan h key from (between from end w))
+    pub pick-is : (stop : ℕ) → stop ≡ at + 1 + descendants h (recordsIn (at + 1) end w) → Span.the-variants.At at stop ≡ spanOf (pickSpan h key from (recordsIn from end w))
     pick-is stop f =
         let q : from + suc (met .offset) ≡ at + 1 = omega (arith, met .number) in
-        let g : stop ≡ suc at + run h (between (at + 1) end w) = f ∙ ap (λ (x : ℕ). x + run h (between (at + 1) end w)) (add-one at) in
+        let g : stop ≡ suc at + descendants h (recordsIn (at + 1) end w) = f ∙ ap (λ (x : ℕ). x + descendants h (recordsIn (at + 1) end w)) (add-one at) in
         rw (met .there, drop-drop (suc (met .offset)) from (chunks end w), q, met .number, g)
 
 -- ---- spot_of
@@ -156,14 +156,14 @@ no-span : (o : Option (ℕ × ℕ)) → spanOf o ≡ Span.the-variants.Missing �
 no-span none e = refl
 no-span (some s) e = let z : _≡_ {A = ℕ} 0 1 = cc in absurd (omega arith)
 
-module _ (w : List ℕ) (h : ℕ) (key : Key) (from end : ℕ) (r : Span.Span) (e : r ≡ spanOf (pickSpan h key from (between from end w))) where
+module _ (w : List ℕ) (h : ℕ) (key : Key) (from end : ℕ) (r : Span.Span) (e : r ≡ spanOf (pickSpan h key from (recordsIn from end w))) where
   pub spot-missing : (keys : List Key) → r ≡ Span.the-variants.Missing → spotIn h (key ∷ keys) from end w ≡ (end, 0)
   unfolding spotIn
-  spot-missing keys m = rw (no-span (pickSpan h key from (between from end w)) (sym e ∙ m))
+  spot-missing keys m = rw (no-span (pickSpan h key from (recordsIn from end w)) (sym e ∙ m))
 
   module _ (start stop : ℕ) (m : r ≡ Span.the-variants.At start stop) where
-    pub spot-span : pickSpan h key from (between from end w) ≡ some (start, stop)
-    spot-span = at-span (pickSpan h key from (between from end w)) start stop (sym e ∙ m)
+    pub spot-span : pickSpan h key from (recordsIn from end w) ≡ some (start, stop)
+    spot-span = at-span (pickSpan h key from (recordsIn from end w)) start stop (sym e ∙ m)
 
     pub spot-inside : Within from end w → Inside from end start stop
     spot-inside b = picked-inside w from end h b key start stop spot-span
@@ -180,14 +180,14 @@ unfolding spotIn
 spot-none h from end w = refl
 
 -- the spot of a chain that is missing, and one below a chain that stands
-module _ (w : List ℕ) (start end id : ℕ) (r : Span.Span) (e : r ≡ spanOf (pickSpan 2 (chainKey id) (start + 1) (between (start + 1) end w))) where
+module _ (w : List ℕ) (start end id : ℕ) (r : Span.Span) (e : r ≡ spanOf (pickSpan 2 (chainKey id) (start + 1) (recordsIn (start + 1) end w))) where
   pub lands-missing : r ≡ Span.the-variants.Missing → Lands start end id w (record { at = end; depth = 0; chain = end; «chain_end» = end })
   lands-missing m =
       record {
         depth = omega arith;
         high = omega arith;
         within = omega arith;
-        missing = λ d. no-span (pickSpan 2 (chainKey id) (start + 1) (between (start + 1) end w)) (sym e ∙ m);
+        missing = λ d. no-span (pickSpan 2 (chainKey id) (start + 1) (recordsIn (start + 1) end w)) (sym e ∙ m);
         last = λ d. refl;
         chain = λ d. absurd (omega arith);
         low = λ d. absurd (omega arith);

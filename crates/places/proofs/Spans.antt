@@ -16,8 +16,8 @@ use Rattle.machine.specs.Edit.{first, last, pick}
 use Rattle.laws.specs.Lists.{All}
 use Rattle.laws.specs.Grouped.{chunks-length}
 use Rattle.laws.specs.Layout.{records-read, read-parts}
-use Rattle.seek.specs.Seek.{held, Good, Within, recordAt, between, run, child, childSpan, toEnd, span}
-use Rattle.seek.proofs.Below.{between-cons, run-over, end-within, child-below, child-span}
+use Rattle.seek.specs.Seek.{held, Good, Within, recordAt, recordsIn, descendants, child, childSpan, toEnd, span}
+use Rattle.seek.proofs.Below.{recordsIn-cons, descendants-over, end-within, child-below, child-span}
 use Rattle.places.specs.Pick.{Key, marks, pickSpan}
 use Rattle.places.proofs.Picks.{pick-over, pick-within}
 
@@ -31,14 +31,14 @@ module _ (h n : ℕ) where
     pub offset : ℕ
     pub there : c ≡ some offset
     pub number : n + offset ≡ start
-    pub ends : suc start + run h (drop (suc offset) rs) ≡ stop
+    pub ends : suc start + descendants h (drop (suc offset) rs) ≡ stop
 
   pub ended : (c : Option ℕ) (rs : List Words) (start stop : ℕ) → toSpan c rs ≡ some (start, stop) → Ended c rs start stop
   ended none rs start stop e = let z : _≡_ {A = ℕ} 0 1 = cc in absurd (omega arith)
   ended (some o) rs start stop e =
-      let p : _≡_ {A = ℕ × ℕ} (n + o, suc (n + o) + run h (drop (suc o) rs)) (start, stop) = cc in
+      let p : _≡_ {A = ℕ × ℕ} (n + o, suc (n + o) + descendants h (drop (suc o) rs)) (start, stop) = cc in
       let x : n + o ≡ start = ap (λ (z : ℕ × ℕ). z .0) p in
-      let y : suc (n + o) + run h (drop (suc o) rs) ≡ stop = ap (λ (z : ℕ × ℕ). z .1) p in
+      let y : suc (n + o) + descendants h (drop (suc o) rs) ≡ stop = ap (λ (z : ℕ × ℕ). z .1) p in
       record { offset = o; there = refl; number = x; ends = omega arith }
 
   pub to-span : (c : Option ℕ) (rs : List Words) (start stop : ℕ) → Ended c rs start stop → toSpan c rs ≡ some (start, stop)
@@ -54,18 +54,18 @@ mapped : (c : Option ℕ) (o : ℕ) → Option·map suc c ≡ some o → (q : �
 mapped none o e = let z : _≡_ {A = ℕ} 0 1 = cc in absurd (omega arith)
 mapped (some q) o e = (q, refl, cc)
 
-run-new : (h : ℕ) (new rest : List Words) → All (λ r. h < kind r) new → run h (new ++ rest) ≡ run h rest + length new
-unfolding run
-run-new h [] rest a = omega arith
-run-new h (r ∷ new) rest a = rw (lt-ltb h (kind r) (a .0)) (omega (arith, run-new h new rest (a .1)))
+descendants-new : (h : ℕ) (new rest : List Words) → All (λ r. h < kind r) new → descendants h (new ++ rest) ≡ descendants h rest + length new
+unfolding descendants
+descendants-new h [] rest a = omega arith
+descendants-new h (r ∷ new) rest a = rw (lt-ltb h (kind r) (a .0)) (omega (arith, descendants-new h new rest (a .1)))
 
-run-put : (h : ℕ) (a new b : List Words) → All (λ r. h < kind r) new → length a ≤ run h (a ++ b) → run h (a ++ (new ++ b)) ≡ run h (a ++ b) + length new
-unfolding run
-run-put h [] new b k l = run-new h new b k
-run-put h (r ∷ a) new b k l = go (ltb h (kind r)) l (run-put h a new b k)
+descendants-put : (h : ℕ) (a new b : List Words) → All (λ r. h < kind r) new → length a ≤ descendants h (a ++ b) → descendants h (a ++ (new ++ b)) ≡ descendants h (a ++ b) + length new
+unfolding descendants
+descendants-put h [] new b k l = descendants-new h new b k
+descendants-put h (r ∷ a) new b k l = go (ltb h (kind r)) l (descendants-put h a new b k)
   where
-    go : (t : Bool) → suc (length a) ≤ cond t (suc (run h (a ++ b))) 0 → (length a ≤ run h (a ++ b) → run h (a ++ (new ++ b)) ≡ run h (a ++ b) + length new)
-        → cond t (suc (run h (a ++ (new ++ b)))) 0 ≡ cond t (suc (run h (a ++ b))) 0 + length new
+    go : (t : Bool) → suc (length a) ≤ cond t (suc (descendants h (a ++ b))) 0 → (length a ≤ descendants h (a ++ b) → descendants h (a ++ (new ++ b)) ≡ descendants h (a ++ b) + length new)
+        → cond t (suc (descendants h (a ++ (new ++ b)))) 0 ≡ cond t (suc (descendants h (a ++ b))) 0 + length new
     go true l f = omega (arith, f (omega arith))
     go false l f = absurd (omega arith)
 
@@ -139,8 +139,8 @@ module _ (h n : ℕ) (find : List Words → Option ℕ) (front : Fronted find) w
       let i : suc o ≤ length a = omega arith in
       let was : drop (suc o) (a ++ b) ≡ drop (suc o) a ++ b = drop-append-le (suc o) a b i in
       let is : drop (suc o) (a ++ (new ++ b)) ≡ drop (suc o) a ++ (new ++ b) = drop-append-le (suc o) a (new ++ b) i in
-      let y : suc start + run h (drop (suc o) a ++ b) ≡ stop = ap (λ (rs : List Words). suc start + run h rs) (sym was) ∙ d .ends in
-      let q = run-put h (drop (suc o) a) new b k (omega (arith, length-drop (suc o) a)) in
+      let y : suc start + descendants h (drop (suc o) a ++ b) ≡ stop = ap (λ (rs : List Words). suc start + descendants h rs) (sym was) ∙ d .ends in
+      let q = descendants-put h (drop (suc o) a) new b k (omega (arith, length-drop (suc o) a)) in
       to-span h n (find (a ++ (new ++ b))) (a ++ (new ++ b)) start (stop + length new)
       (record { offset = o; there = front a b (new ++ b) o (d .there) (omega arith); number = x; ends = rw (is, q) (omega arith) })
 
@@ -152,21 +152,21 @@ pub record Inside (from end start stop : ℕ) : Type 0 where
   pub high : stop ≤ end
 
 module _ (w : List ℕ) (from end h : ℕ) (b : Within from end w) where
-  ended-inside : (c : Option ℕ) (start stop : ℕ) → ((o : ℕ) → c ≡ some o → from + o < end) → toSpan h from c (between from end w) ≡ some (start, stop) → Inside from end start stop
+  ended-inside : (c : Option ℕ) (start stop : ℕ) → ((o : ℕ) → c ≡ some o → from + o < end) → toSpan h from c (recordsIn from end w) ≡ some (start, stop) → Inside from end start stop
   ended-inside c start stop f e =
-      let d = ended h from c (between from end w) start stop e in
+      let d = ended h from c (recordsIn from end w) start stop e in
       let x = d .number in
       let y = d .ends in
       let i = f (d .offset) (d .there) in
       let z = drop-drop (suc (d .offset)) from (chunks end w) in
-      let q : suc start + run h (between (from + suc (d .offset)) end w) ≡ stop = ap (λ (rs : List Words). suc start + run h rs) (sym z) ∙ y in
+      let q : suc start + descendants h (recordsIn (from + suc (d .offset)) end w) ≡ stop = ap (λ (rs : List Words). suc start + descendants h rs) (sym z) ∙ y in
       let t = end-within w (from + suc (d .offset)) end h (record { order = omega arith; room = b .room }) in
       record { low = omega arith; order = omega arith; high = omega arith }
 
-  pub picked-inside : (key : Key) (start stop : ℕ) → pickSpan h key from (between from end w) ≡ some (start, stop) → Inside from end start stop
+  pub picked-inside : (key : Key) (start stop : ℕ) → pickSpan h key from (recordsIn from end w) ≡ some (start, stop) → Inside from end start stop
   picked-inside key start stop e =
-      ended-inside (pick (key .which) (marks h key) (between from end w)) start stop
-      (λ o q. omega (arith, b .order, pick-within (marks h key) (key .which) (between from end w) o q, length-drop from (chunks end w), chunks-length end w))
+      ended-inside (pick (key .which) (marks h key) (recordsIn from end w)) start stop
+      (λ o q. omega (arith, b .order, pick-within (marks h key) (key .which) (recordsIn from end w) o q, length-drop from (chunks end w), chunks-length end w))
       e
 
 pub model-inside : (w : List ℕ) → Good w → (i start stop : ℕ) → childSpan 1 i 0 (recordsOf w) ≡ some (start, stop) → Inside 0 (length (recordsOf w)) start stop
@@ -182,16 +182,16 @@ model-span w g i =
     ap (childSpan 1 i 0) (sym (records-read w (held w) g)) ∙ rw append-nil at (child-span 0 4 refl i 0 (held w) [] tt)
 
 -- the records around one
-pub between-split : (w : List ℕ) (from end at : ℕ) → from ≤ at → at < end
-    → (a : List Words) × (length a ≡ at - from) × (between from end w ≡ a ++ (recordAt at w ∷ between (at + 1) end w))
-between-split w from end at l h =
+pub recordsIn-split : (w : List ℕ) (from end at : ℕ) → from ≤ at → at < end
+    → (a : List Words) × (length a ≡ at - from) × (recordsIn from end w ≡ a ++ (recordAt at w ∷ recordsIn (at + 1) end w))
+recordsIn-split w from end at l h =
     let x : List Words = chunks end w in
     let n : length (take at x) ≡ at = length-take-le at x (omega (arith, chunks-length end w)) in
     let s : drop from (take at x ++ drop at x) ≡ drop from (take at x) ++ drop at x = drop-append-le from (take at x) (drop at x) (omega arith) in (
       drop from (take at x),
       omega (arith, length-drop from (take at x)),
-      ap (drop from) (sym (take-append-drop at x)) ∙ s ∙ ap (λ (rs : List Words). drop from (take at x) ++ rs) (between-cons w end at h),
+      ap (drop from) (sym (take-append-drop at x)) ∙ s ∙ ap (λ (rs : List Words). drop from (take at x) ++ rs) (recordsIn-cons w end at h),
     )
 
-pub run-whole : (h : ℕ) (rs : List Words) → All (λ r. h < kind r) rs → run h rs ≡ length rs
-run-whole h rs k = ap (run h) (sym (append-nil rs)) ∙ run-over h rs [] k tt
+pub descendants-whole : (h : ℕ) (rs : List Words) → All (λ r. h < kind r) rs → descendants h rs ≡ length rs
+descendants-whole h rs k = ap (descendants h) (sym (append-nil rs)) ∙ descendants-over h rs [] k tt

@@ -9,7 +9,7 @@ use Rattle.machine.specs.Lists.{andThen}
 use Rattle.machine.specs.Text.{Optional, matchesOptional, optionalOf}
 use Rattle.machine.specs.Record.{Words, kind}
 use Rattle.machine.specs.Edit.{Which, first, last, pick}
-use Rattle.seek.specs.Seek.{between, toEnd}
+use Rattle.seek.specs.Seek.{recordsIn, toEnd}
 use Rattle.places.specs.declared.Child as Child
 use Rattle.places.specs.declared.Spot as Spot
 
@@ -65,7 +65,7 @@ spotStep (some p) s f = (f p .0, suc (f p .1))
 unfoldable pub spotIn : ℕ → List Key → ℕ → ℕ → List ℕ → Found
 spotIn h [] from end w = (end, 0)
 spotIn h (key ∷ keys) from end w =
-    spotStep (pickSpan h key from (between from end w)) (end, 0) (λ s. spotIn (suc h) keys (s .0 + 1) (s .1) w)
+    spotStep (pickSpan h key from (recordsIn from end w)) (end, 0) (λ s. spotIn (suc h) keys (s .0 + 1) (s .1) w)
 
 abbrev pub foundOf : Spot.Spot → Found
 foundOf s = (s .at, s .depth)

@@ -10,7 +10,7 @@ use Rattle.machine.specs.Record.{Atom, Words, words, kind}
 use Rattle.machine.specs.Store.{recordsOf}
 use Rattle.machine.specs.Edit.{Prepare}
 use Rattle.laws.specs.Lists.{All}
-use Rattle.seek.specs.Seek.{Good, between, childSpan}
+use Rattle.seek.specs.Seek.{Good, recordsIn, childSpan}
 use Rattle.places.specs.Pick.{Key, keyOf, pickSpan}
 use Rattle.places.specs.declared.Place as Place
 use Rattle.places.specs.declared.Spot as Spot
@@ -31,13 +31,13 @@ pub record Kept (p : Place.Place) (w : List ℕ) : Type 0 where
   -- the model's span, by its index
   pub model : childSpan 1 (p .model) 0 (recordsOf w) ≡ some (p .start, p .«model_end»)
   -- in it, the span of the first chain with the id
-  pub chain : pickSpan 2 (chainKey (p .id)) (p .start + 1) (between (p .start + 1) (p .«model_end») w) ≡ some (p .chain, p .«chain_end»)
+  pub chain : pickSpan 2 (chainKey (p .id)) (p .start + 1) (recordsIn (p .start + 1) (p .«model_end») w) ≡ some (p .chain, p .«chain_end»)
   -- one of the chain's records, after which no residue comes
   pub low : p .chain < p .residue
   pub high : p .residue < p .«chain_end»
-  pub last : All (λ r. 3 < kind r) (between (p .residue + 1) (p .«chain_end») w)
+  pub last : All (λ r. 3 < kind r) (recordsIn (p .residue + 1) (p .«chain_end») w)
   -- no residue of the chain ranks above the top
-  pub top : p .topped ≡ true → All (Ranked (p .top)) (between (p .chain + 1) (p .«chain_end») w)
+  pub top : p .topped ≡ true → All (Ranked (p .top)) (recordsIn (p .chain + 1) (p .«chain_end») w)
 
 abbrev pub Known : Place.Place → List ℕ → Type 0
 Known p w = p .known ≡ true → Kept p w
@@ -50,10 +50,10 @@ pub record Lands (start end id : ℕ) (w : List ℕ) (s : Spot.Spot) : Type 0 wh
   pub high : s .at ≤ s .«chain_end»
   pub within : s .«chain_end» ≤ end
   -- without such a chain, at the model's end
-  pub missing : s .depth ≡ 0 → pickSpan 2 (chainKey id) (start + 1) (between (start + 1) end w) ≡ none
+  pub missing : s .depth ≡ 0 → pickSpan 2 (chainKey id) (start + 1) (recordsIn (start + 1) end w) ≡ none
   pub last : s .depth ≡ 0 → s .at ≡ end
   -- with one, below it, and at its end if there is no residue to take
-  pub chain : 1 ≤ s .depth → pickSpan 2 (chainKey id) (start + 1) (between (start + 1) end w) ≡ some (s .chain, s .«chain_end»)
+  pub chain : 1 ≤ s .depth → pickSpan 2 (chainKey id) (start + 1) (recordsIn (start + 1) end w) ≡ some (s .chain, s .«chain_end»)
   pub low : 1 ≤ s .depth → s .chain < s .at
   pub residue : s .depth ≡ 1 → s .at ≡ s .«chain_end»
 

@@ -7,7 +7,7 @@ ghost use mathlib.Core.List.{[], _∷_};
 ghost use Prim.Native.Nat.{_+_, _*_, _≤_};
 ghost use lib.ListN.{length};
 ghost use Rattle.machine.specs.Text.{optionalOf};
-ghost use Rattle.seek.specs.Seek.{Good, Within, held, recordAt, between, span, spanOf};
+ghost use Rattle.seek.specs.Seek.{Good, Within, held, recordAt, recordsIn, span, spanOf};
 ghost use Rattle.places.specs.Pick.{keyOf, marks, pickStart, pickSpan, childOf, keysOf, spotIn, foundOf};
 ghost use Rattle.places.specs.Place.{rank, Known, Lands, Moves};
 use machine::Record;
@@ -47,7 +47,7 @@ fn find_child(
     text: &[u8],
 ) -> Child
     requires { ⌜ Within from end (now store) ⌝ }
-    ensures { λ r. ⌜ r ≡ childOf (pickStart kind (keyOf last word flag (now (text .entry))) from (between from end (now (store .entry)))) ⌝ }
+    ensures { λ r. ⌜ r ≡ childOf (pickStart kind (keyOf last word flag (now (text .entry))) from (recordsIn from end (now (store .entry)))) ⌝ }
 {
     let mut best = Child::Missing;
     let mut at: usize = from;
@@ -78,7 +78,7 @@ fn pick_child(
     text: &[u8],
 ) -> Span
     requires { ⌜ Within from end (now store) ⌝ }
-    ensures { λ r. ⌜ r ≡ spanOf (pickSpan kind (keyOf last word flag (now (text .entry))) from (between from end (now (store .entry)))) ⌝ }
+    ensures { λ r. ⌜ r ≡ spanOf (pickSpan kind (keyOf last word flag (now (text .entry))) from (recordsIn from end (now (store .entry)))) ⌝ }
 {
     let Child::At(at) = find_child(store, from, end, kind, last, word, flag, text) else {
         return Span::Missing;
@@ -157,7 +157,7 @@ pub fn model_span(store: &[u64], place: Place, model: u64) -> Span
 fn chain_span(store: &[u64], place: Place, start: usize, end: usize, id: u64, text: &[u8]) -> Span
     requires { ⌜ Within (start + 1) end (now store) ⌝ }
     requires { ⌜ Known place (now store) ⌝ }
-    ensures { λ r. ⌜ r ≡ spanOf (pickSpan 2 (keyOf false id 0 (now (text .entry))) (start + 1) (between (start + 1) end (now (store .entry)))) ⌝ }
+    ensures { λ r. ⌜ r ≡ spanOf (pickSpan 2 (keyOf false id 0 (now (text .entry))) (start + 1) (recordsIn (start + 1) end (now (store .entry)))) ⌝ }
 {
     if place.known & (place.start == start) & (place.model_end == end) & (place.id == id) {
         return Span::At(place.chain, place.chain_end);
@@ -177,7 +177,7 @@ fn residue_span(
 ) -> Span
     requires { ⌜ Within (chain + 1) end (now store) ⌝ }
     requires { ⌜ Known place (now store) ⌝ }
-    ensures { λ r. ⌜ r ≡ spanOf (pickSpan 3 (keyOf true serial flag (now (code .entry))) (chain + 1) (between (chain + 1) end (now (store .entry)))) ⌝ }
+    ensures { λ r. ⌜ r ≡ spanOf (pickSpan 3 (keyOf true serial flag (now (code .entry))) (chain + 1) (recordsIn (chain + 1) end (now (store .entry)))) ⌝ }
 {
     if place.known & (place.chain == chain) & (place.chain_end == end) {
         if is_marked(store, place.residue, Record::RESIDUE, serial, flag, code) {
@@ -225,7 +225,9 @@ pub fn spot_of(
 ) -> Spot
     requires { ⌜ Within (start + 1) end (now store) ⌝ }
     requires { ⌜ Known place (now store) ⌝ }
-    ensures { λ r. ⌜ foundOf r ≡ spotIn 2 (keysOf id residue (optionalOf «code_flag» (now (code .entry))) conformer (optionalOf «location_flag» (now (location .entry)))) (start + 1) end (now (store .entry)) ⌝ }
+    ensures { λ r. ⌜ foundOf r ≡ spotIn 2
+        (keysOf id residue (optionalOf «code_flag» (now (code .entry))) conformer (optionalOf «location_flag» (now (location .entry))))
+        (start + 1) end (now (store .entry)) ⌝ }
     ensures { λ r. ⌜ Lands start end id (now (store .entry)) r ⌝ }
 {
     let mut spot = Spot {

@@ -25,7 +25,7 @@ use Rattle.laws.specs.Counting.{Rises, keyed-those}
 use Rattle.laws.specs.Numbers.{siteNumber, numbers-rise}
 use Rattle.laws.specs.Layout.{read-fit}
 use Rattle.search.proofs.Nodes.{node-refused}
-use Rattle.demands.specs.Runs.{fives-words, hits-five}
+use Rattle.demands.proofs.Runs.{fives-words, hits-five}
 use Rattle.decimals.proofs.Laws.{digits-few}
 use Rattle.program.proofs.Parts.{words-length}
 use Rattle.program.specs.Text.{line, lines, lastLine, answered}

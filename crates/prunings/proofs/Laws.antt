@@ -17,16 +17,16 @@ use Rattle.machine.specs.declared.Edited as Edited
 use Rattle.machine.specs.declared.Refusal.the-variants.{NoPosition}
 use Rattle.laws.specs.Lists.{All}
 use Rattle.laws.specs.Grouped.{concat, concat-length, chunks-length}
-use Rattle.moves.specs.Over.{over, part, removed}
+use Rattle.moves.specs.Over.{over, part, removed, Twelve}
 use Rattle.moves.proofs.Laws.{over-none, over-length, over-under, take-over, part-below}
-use Rattle.moves.proofs.Records.{Twelve, remove-laid}
-use Rattle.seek.specs.Seek.{held, Good, Within, recordAt, between, span, spanOf}
-use Rattle.seek.proofs.Below.{record-kind, between-cons, between-nil}
+use Rattle.moves.proofs.Records.{remove-laid}
+use Rattle.seek.specs.Seek.{held, Good, Within, recordAt, recordsIn, span, spanOf}
+use Rattle.seek.proofs.Below.{record-kind, recordsIn-cons, recordsIn-nil}
 use Rattle.seek.proofs.Laws.{Stands, found, missing}
 use Rattle.seek.specs.declared.Span as Span
-use Rattle.prunings.specs.Prune.{Laid, instead, stays, full, Gathered}
-use Rattle.prunings.specs.Laws.{full-chains, nonEmpty-atoms}
-use Rattle.prunings.specs.Words.{good-laid, between-twelve, between-over, Rewritten, rewritten, below-within, below-high, below-records, below-laid, below-stored}
+use Rattle.prunings.specs.Prune.{Laid, stays, full, Gathered}
+use Rattle.prunings.proofs.Branches.{full-chains, nonEmpty-atoms}
+use Rattle.prunings.proofs.Words.{instead, good-laid, recordsIn-twelve, recordsIn-over, Rewritten, rewritten, below-within, below-high, below-records, below-laid, below-stored}
 
 -- ---- `close_gap`
 
@@ -53,14 +53,14 @@ close-law w s to end l o h e =
 -- ---- `stays`
 
 module _ (w : List ℕ) (at to end : ℕ) where
-  pub stays-atom : getD w (at * 12) 0 ≡ 5 → true ≡ stays (recordAt at w) (between to end w)
+  pub stays-atom : getD w (at * 12) 0 ≡ 5 → true ≡ stays (recordAt at w) (recordsIn to end w)
   stays-atom e = rw (record-kind w at, eq-eqb (getD w (at * 12) 0) 5 e)
 
-  pub stays-none : (getD w (at * 12) 0 ≡ 5 → ⊥) → to ≡ end → false ≡ stays (recordAt at w) (between to end w)
-  stays-none n e = rw (record-kind w at, ne-eqb (getD w (at * 12) 0) 5 n, between-nil w end to (omega arith))
+  pub stays-none : (getD w (at * 12) 0 ≡ 5 → ⊥) → to ≡ end → false ≡ stays (recordAt at w) (recordsIn to end w)
+  stays-none n e = rw (record-kind w at, ne-eqb (getD w (at * 12) 0) 5 n, recordsIn-nil w end to (omega arith))
 
-  pub stays-below : (getD w (at * 12) 0 ≡ 5 → ⊥) → (to ≡ end → ⊥) → to ≤ end → ltb (getD w (at * 12) 0) (getD w (to * 12) 0) ≡ stays (recordAt at w) (between to end w)
-  stays-below n e l = rw (record-kind w at, ne-eqb (getD w (at * 12) 0) 5 n, between-cons w end to (omega arith), record-kind w to)
+  pub stays-below : (getD w (at * 12) 0 ≡ 5 → ⊥) → (to ≡ end → ⊥) → to ≤ end → ltb (getD w (at * 12) 0) (getD w (to * 12) 0) ≡ stays (recordAt at w) (recordsIn to end w)
+  stays-below n e l = rw (record-kind w at, ne-eqb (getD w (at * 12) 0) 5 n, recordsIn-cons w end to (omega arith), record-kind w to)
 
 -- ---- `lift`
 
@@ -92,7 +92,7 @@ pub record Passed (from end : ℕ) (w : List ℕ) (at to : ℕ) (s : List ℕ) :
 pub gather-start : (from end : ℕ) (w : List ℕ) → from ≤ end → Passed from end w end end w
 unfolding full
 gather-start from end w h =
-    let e = between-nil w end end (omega arith) in
+    let e = recordsIn-nil w end end (omega arith) in
     record {
       low = h;
       high = omega arith;
@@ -111,14 +111,14 @@ module _ (from end : ℕ) (w : List ℕ) (at to : ℕ) (s : List ℕ) (h : Withi
   rest : Within at end w
   rest = record { order = i .high; room = h .room }
 
-  below-twelve : Twelve (full (between at end w))
-  below-twelve = full-all _ (between at end w) (between-twelve w at end rest)
+  below-twelve : Twelve (full (recordsIn at end w))
+  below-twelve = full-all _ (recordsIn at end w) (recordsIn-twelve w at end rest)
 
-  kept : between to end s ≡ full (between at end w)
+  kept : recordsIn to end s ≡ full (recordsIn at end w)
   kept =
       let n = i .done .count in
       let b : Within to end w = record { order = omega arith; room = h .room } in
-      ap (between to end) (i .done .is) ∙ between-over w to end b (full (between at end w)) below-twelve n
+      ap (recordsIn to end) (i .done .is) ∙ recordsIn-over w to end b (full (recordsIn at end w)) below-twelve n
 
   module _ (l : from < at) where
     -- the next record is still as it was
@@ -129,21 +129,21 @@ module _ (from end : ℕ) (w : List ℕ) (at to : ℕ) (s : List ℕ) (h : Withi
         let n = i .done .count in
         let r = h .room in
         let e : (at - 1) * 12 + 12 - (at - 1) * 12 ≡ 12 = omega arith in
-        let p = part-below (to * 12) (concat (full (between at end w))) w ((at - 1) * 12) ((at - 1) * 12 + 12) (omega arith) (omega arith) (omega arith) in
+        let p = part-below (to * 12) (concat (full (recordsIn at end w))) w ((at - 1) * 12) ((at - 1) * 12 + 12) (omega arith) (omega arith) (omega arith) in
         ap (recordAt (at - 1)) (i .done .is) ∙ (rw e at p)
 
-    next : (b : Bool) → b ≡ stays (recordAt (at - 1) s) (between to end s)
-        → full (between (at - 1) end w) ≡ keep b (recordAt (at - 1) w) (full (between at end w))
+    next : (b : Bool) → b ≡ stays (recordAt (at - 1) s) (recordsIn to end s)
+        → full (recordsIn (at - 1) end w) ≡ keep b (recordAt (at - 1) w) (full (recordsIn at end w))
     unfolding full
     next b e =
         let o = i .high in
         let f : at - 1 + 1 ≡ at = omega arith in
-        let t : b ≡ stays (recordAt (at - 1) w) (full (between at end w)) = e ∙ rw (unmoved, kept) in
-        rw (between-cons w end (at - 1) (omega arith), f, ← t)
+        let t : b ≡ stays (recordAt (at - 1) w) (full (recordsIn at end w)) = e ∙ rw (unmoved, kept) in
+        rw (recordsIn-cons w end (at - 1) (omega arith), f, ← t)
 
-    pub gather-skip : (b : Bool) → b ≡ stays (recordAt (at - 1) s) (between to end s) → b ≡ false → Passed from end w (at - 1) to s
+    pub gather-skip : (b : Bool) → b ≡ stays (recordAt (at - 1) s) (recordsIn to end s) → b ≡ false → Passed from end w (at - 1) to s
     gather-skip b e f =
-        let q : full (between (at - 1) end w) ≡ full (between at end w) = next b e ∙ rw f in
+        let q : full (recordsIn (at - 1) end w) ≡ full (recordsIn at end w) = next b e ∙ rw f in
         let o = i .high in
         let u = i .done .low in
         record {
@@ -153,12 +153,12 @@ module _ (from end : ℕ) (w : List ℕ) (at to : ℕ) (s : List ℕ) (h : Withi
           done = record { low = omega arith; count = rw q (i .done .count); is = rw q (i .done .is) };
         }
 
-    pub gather-keep : (b : Bool) (s′ : List ℕ) → b ≡ stays (recordAt (at - 1) s) (between to end s) → b ≡ true
+    pub gather-keep : (b : Bool) (s′ : List ℕ) → b ≡ stays (recordAt (at - 1) s) (recordsIn to end s) → b ≡ true
         → s′ ≡ over ((to - 1) * 12) (take 12 (drop ((at - 1) * 12) s)) s → Passed from end w (at - 1) (to - 1) s′
     gather-keep b s′ e f g =
         let r : Words = recordAt (at - 1) w in
-        let b′ : List Words = full (between at end w) in
-        let q : full (between (at - 1) end w) ≡ r ∷ b′ = next b e ∙ rw f in
+        let b′ : List Words = full (recordsIn at end w) in
+        let q : full (recordsIn (at - 1) end w) ≡ r ∷ b′ = next b e ∙ rw f in
         let o = i .high in
         let u = i .done .low in
         let n = i .done .count in
@@ -201,27 +201,27 @@ module _ (w : List ℕ) (i : ℕ) (g : Good w) (r : Span.Span) (e : r ≡ spanOf
     model-within = below-within w g 0 3 (i ∷ []) (held w) start stop refl there
 
     module _ (first : ℕ) (s : List ℕ) (h : Gathered (start + 1) stop w first s) where
-      high : first + length (full (between (start + 1) stop w)) ≤ length (recordsOf w)
+      high : first + length (full (recordsIn (start + 1) stop w)) ≤ length (recordsOf w)
       high = let c = h .count in omega (arith, below-high w g 0 3 (i ∷ []) (held w) start stop refl there)
 
-      moved : Rewritten w (over first (full (between (start + 1) stop w)) (recordsOf w)) s
-      moved = rewritten w s _ first (good-laid w g) (full-all _ _ (between-twelve w (start + 1) stop model-within)) high (h .is)
+      moved : Rewritten w (over first (full (recordsIn (start + 1) stop w)) (recordsOf w)) s
+      moved = rewritten w s _ first (good-laid w g) (full-all _ _ (recordsIn-twelve w (start + 1) stop model-within)) high (h .is)
 
       pub gap-moved : Gap first s
       gap-moved =
-          let l = over-length first (full (between (start + 1) stop w)) (recordsOf w) high in
+          let l = over-length first (full (recordsIn (start + 1) stop w)) (recordsOf w) high in
           record { laid = moved .laid; high = rw (moved .records, l) (omega (arith, high)) }
 
       module _ (v : List ℕ) (q : v ≡ laid (length s) (concat (take (start + 1) (recordsOf s) ++ drop first (recordsOf s)))) where
-        closed : v ≡ laid (length w) (concat (instead (start + 1) stop (full (between (start + 1) stop w)) (recordsOf w)))
+        closed : v ≡ laid (length w) (concat (instead (start + 1) stop (full (recordsIn (start + 1) stop w)) (recordsOf w)))
         unfolding over
         closed =
             let rs = recordsOf w in
             let c = h .count in
             let l = h .low in
             let o = high in
-            let t = take-over first (full (between (start + 1) stop w)) rs (start + 1) (omega arith) l in
-            let d : drop first (over first (full (between (start + 1) stop w)) rs) ≡ full (between (start + 1) stop w) ++ drop stop rs =
+            let t = take-over first (full (recordsIn (start + 1) stop w)) rs (start + 1) (omega arith) l in
+            let d : drop first (over first (full (recordsIn (start + 1) stop w)) rs) ≡ full (recordsIn (start + 1) stop w) ++ drop stop rs =
             drop-at (take first rs) _ first (length-take-le first rs (omega arith)) ∙ rw c in
             q ∙ rw (moved .records, moved .size, t, d)
 

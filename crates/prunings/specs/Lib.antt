@@ -1,3 +1,1 @@
 pub mod Prune
-pub mod Laws
-pub mod Words

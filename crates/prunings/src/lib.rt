@@ -8,7 +8,7 @@ ghost use Rattle.machine.specs.Store.{laid, recordsOf};
 ghost use Rattle.machine.specs.Edit.{removeEmpty, stepBy};
 ghost use Rattle.laws.specs.Grouped.{concat};
 ghost use Rattle.moves.specs.Over.{over};
-ghost use Rattle.seek.specs.Seek.{Good, Within, recordAt, between};
+ghost use Rattle.seek.specs.Seek.{Good, Within, recordAt, recordsIn};
 ghost use Rattle.prunings.specs.Prune.{Laid, stays, Gathered};
 use machine::Edited;
 use machine::Record;
@@ -19,7 +19,8 @@ use seek::Span;
 pub fn close_gap(store: &mut [u64], to: usize, end: usize)
     requires { ⌜ Laid (now store) ⌝ }
     requires { ⌜ (to ≤ end) × (end ≤ length (recordsOf (now store))) ⌝ }
-    ensures { λ _. ⌜ now (store .exit) ≡ laid (length (now (store .entry))) (concat (take to (recordsOf (now (store .entry))) ++ drop end (recordsOf (now (store .entry))))) ⌝ }
+    ensures { λ _. ⌜ now (store .exit)
+        ≡ laid (length (now (store .entry))) (concat (take to (recordsOf (now (store .entry))) ++ drop end (recordsOf (now (store .entry))))) ⌝ }
 {
     if to == end {
         return;
@@ -38,7 +39,7 @@ pub fn close_gap(store: &mut [u64], to: usize, end: usize)
 // Whether a record stays, where those that stay after it start at `to`: an atom does, and one that the first of them is below.
 fn stays(store: &[u64], at: usize, to: usize, end: usize) -> bool
     requires { ⌜ (at < end) × Within to end (now store) ⌝ }
-    ensures { λ r. ⌜ r ≡ stays (recordAt at (now (store .entry))) (between to end (now (store .entry))) ⌝ }
+    ensures { λ r. ⌜ r ≡ stays (recordAt at (now (store .entry))) (recordsIn to end (now (store .entry))) ⌝ }
 {
     let kind = store[at * Record::WIDTH];
     if kind == Record::ATOM {

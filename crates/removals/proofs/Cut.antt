@@ -14,9 +14,9 @@ use Rattle.machine.specs.declared.Edited.the-variants.{Done}
 use Rattle.laws.specs.Lists.{sum-append}
 use Rattle.laws.specs.Grouped.{concat, twelve-words}
 use Rattle.laws.specs.Layout.{layOut-read, read-parts, read-length, length-parts}
-use Rattle.moves.specs.Over.{removed}
-use Rattle.moves.proofs.Records.{Twelve, remove-laid}
-use Rattle.seek.specs.Seek.{Good, held, between, atomRecords}
+use Rattle.moves.specs.Over.{removed, Twelve}
+use Rattle.moves.proofs.Records.{remove-laid}
+use Rattle.seek.specs.Seek.{Good, held, recordsIn, atomRecords}
 use Rattle.seek.proofs.Below.{chunks-take}
 use Rattle.seek.proofs.Laws.{Stands, records-count, whole-records, atoms-stored}
 use Rattle.removals.specs.Removal.{Removable, withoutRecords}
@@ -88,13 +88,13 @@ module _ (w : List ℕ) (g : Good w) (m′ : Machine) (p q : ℕ) (c : Cut (reco
       words-cut w (records (held w)) (twelve-words (held w)) p q (omega (arith, c .last)) (cut-high _ _ p q c) ends (cut-removable .low) (layOut-words w g)
       ∙ ap (λ (x : List Words). laid (length w) (concat x)) (cut-left _ _ p q c)
 
-  cut-atoms : atomRecords (between p q w) ≡ stored (held w) - stored m′
+  cut-atoms : atomRecords (recordsIn p q w) ≡ stored (held w) - stored m′
   cut-atoms =
       let rs = records (held w) in
       rw (chunks-take q (length rs) w (cut-high _ _ p q c), whole-records w g, cut-taken _ _ p q c, ← atoms-stored (held w), ← atoms-stored m′) (cut-counts _ _ p q c)
 
   -- "removed, the atom records before minus those after"
-  pub cut-step : (step : Machine → Result Change) → step (held w) ≡ ok (changed m′) → (r : ℕ) (s : List ℕ) → r ≡ atomRecords (between p q w) → s ≡ withoutRecords p q w
+  pub cut-step : (step : Machine → Result Change) → step (held w) ≡ ok (changed m′) → (r : ℕ) (s : List ℕ) → r ≡ atomRecords (recordsIn p q w) → s ≡ withoutRecords p q w
       → (editedNumbers (Done 1 r), s) ≡ stepBy w step
   unfolding stepBy
   cut-step step a r s e f = rw (g, a, e, f, cut-atoms, cut-words)

@@ -15,8 +15,8 @@ use Rattle.machine.specs.Edit.{up, root, withChildren}
 use Rattle.laws.specs.Lists.{All, bind-append}
 use Rattle.laws.specs.Scan.{ends-branches}
 use Rattle.laws.specs.Places.{Around}
-use Rattle.seek.specs.Seek.{run}
-use Rattle.seek.proofs.Below.{under, flat-root, under-kinds, run-over}
+use Rattle.seek.specs.Seek.{descendants}
+use Rattle.seek.proofs.Below.{under, flat-root, under-kinds, descendants-over}
 use Rattle.seek.proofs.Laws.{Stands}
 use Rattle.removals.specs.Named.{before}
 use Rattle.removals.proofs.Cut.{Cut}
@@ -38,7 +38,7 @@ module _ (j : ℕ) (ts : List (Branch j)) (i o : ℕ) (c : Child j ts i o) where
       omega (arith, c .offset, ap length child-flats, length-append b (f ++ bind (flat j) (c .around .after)), length-append f (bind (flat j) (c .around .after)), ap length (flat-root j (c .branch)))
 
   -- where its descendants end
-  pub child-stop : (h : ℕ) → h + j ≡ 5 → 1 ≤ h → suc o + run h (drop (suc o) (bind (flat j) ts)) ≡ o + size j (c .branch)
+  pub child-stop : (h : ℕ) → h + j ≡ 5 → 1 ≤ h → suc o + descendants h (drop (suc o) (bind (flat j) ts)) ≡ o + size j (c .branch)
   child-stop h e l =
       let b = bind (flat j) (c .around .before) in
       let r = words j (root j (c .branch)) in
@@ -46,7 +46,7 @@ module _ (j : ℕ) (ts : List (Branch j)) (i o : ℕ) (c : Child j ts i o) where
       let a = bind (flat j) (c .around .after) in
       let n : length (b ++ (r ∷ [])) ≡ suc o = omega (arith, length-append b (r ∷ []), c .offset) in
       let f : bind (flat j) ts ≡ (b ++ (r ∷ [])) ++ (u ++ a) = child-flats ∙ rw (flat-root j (c .branch)) (sym (append-assoc b (r ∷ []) (u ++ a))) in
-      rw (f, drop-at (b ++ (r ∷ [])) (u ++ a) (suc o) n, run-over h u a (under-kinds h j e (c .branch)) (ends-branches h j e (omega arith) (c .around .after)))
+      rw (f, drop-at (b ++ (r ∷ [])) (u ++ a) (suc o) n, descendants-over h u a (under-kinds h j e (c .branch)) (ends-branches h j e (omega arith) (c .around .after)))
       (omega (arith, ap length (flat-root j (c .branch))))
 
 -- its records go with it

@@ -18,8 +18,8 @@ use Rattle.machine.specs.declared.Edited as Edited
 use Rattle.machine.specs.declared.Edited.the-variants.{Done, Refused}
 use Rattle.laws.specs.Layout.{layOut-read}
 use Rattle.moves.specs.Over.{removed}
-use Rattle.seek.specs.Seek.{Good, Within, held, between, run, atomRecords, spanAt, span, spanOf}
-use Rattle.seek.proofs.Below.{between-cons}
+use Rattle.seek.specs.Seek.{Good, Within, held, recordsIn, descendants, atomRecords, spanAt, span, spanOf}
+use Rattle.seek.proofs.Below.{recordsIn-cons}
 use Rattle.seek.proofs.Laws.{Stands, missing, found, stands-within, stands-records}
 use Rattle.seek.specs.declared.Span as Span
 use Rattle.removals.specs.Removal.{Removable, withoutRecords, removalOn, removal}
@@ -76,7 +76,7 @@ module _ (w pos : List ℕ) (g : Good w) (lo : 2 ≤ length pos) (hi : length po
     pub at-removable : Removable p q w
     at-removable = let s = removed-at pos (held w) lo hi .found p q (sym e ∙ f) in cut-removable w g (s .after) p q (s .cut)
 
-    pub at-removed : (n : ℕ) (v : List ℕ) → n ≡ atomRecords (between p q w) → v ≡ withoutRecords p q w
+    pub at-removed : (n : ℕ) (v : List ℕ) → n ≡ atomRecords (recordsIn p q w) → v ≡ withoutRecords p q w
         → (editedNumbers (Done 1 n), v) ≡ stepBy w (removal pos)
     at-removed n v a b =
         let s = removed-at pos (held w) lo hi .found p q (sym e ∙ f) in
@@ -94,8 +94,8 @@ record Loses (k : ℕ) (ts : List (Branch k)) (r : Result (ℕ × List (Branch k
 record BelowParent (w : List ℕ) (h : ℕ) (id : Id) (k : ℕ) (ts : List (Branch k)) (r : Result (ℕ × List (Branch k))) (p q : ℕ) : Type 0 where
   within : Within (p + 1) q w
   flagged : flagOf id ≡ refused BadIdentifier → r ≡ refused BadIdentifier
-  unfound : (at : ℕ) → flagOf id ≡ ok tt → at ≡ p + 1 + before (sought h id) (between (p + 1) q w) → q ≤ at → r ≡ ok (0, ts)
-  lost : (at stop : ℕ) → flagOf id ≡ ok tt → at ≡ p + 1 + before (sought h id) (between (p + 1) q w) → at < q → stop ≡ at + 1 + run h (between (at + 1) q w)
+  unfound : (at : ℕ) → flagOf id ≡ ok tt → at ≡ p + 1 + before (sought h id) (recordsIn (p + 1) q w) → q ≤ at → r ≡ ok (0, ts)
+  lost : (at stop : ℕ) → flagOf id ≡ ok tt → at ≡ p + 1 + before (sought h id) (recordsIn (p + 1) q w) → at < q → stop ≡ at + 1 + descendants h (recordsIn (at + 1) q w)
       → Loses k ts r at stop
 
 module _ (d j : ℕ) (pos : List ℕ) (flag : Result (Unit {0})) (f : Fields j → Bool) (ts : List (Branch (up d (suc j)))) (t : Branch (suc j)) (there : branchAt d (suc j) pos ts ≡ some t) where
@@ -124,28 +124,28 @@ module _ (w : List ℕ) (g : Good w) (d j : ℕ) (pos : List ℕ) (ts : List (Br
     unfolding flat
     ends = omega (arith, s .last)
 
-    kids-records : between (p + 1) q w ≡ bind (flat j) kids
+    kids-records : recordsIn (p + 1) q w ≡ bind (flat j) kids
     unfolding flat
     kids-records =
-        let e = sym (between-cons w q p (omega (arith, ends))) ∙ stands-records w g d (suc j) pos ts p q whole s in
+        let e = sym (recordsIn-cons w q p (omega (arith, ends))) ∙ stands-records w g d (suc j) pos ts p q whole s in
         ap (drop 1) e
 
-    pick : Picked j (firstWhere (λ u. f (root j u)) kids) kids (before (sought h id) (between (p + 1) q w))
+    pick : Picked j (firstWhere (λ u. f (root j u)) kids) kids (before (sought h id) (recordsIn (p + 1) q w))
     pick = rw kids-records (picked h j level f (sought h id) agree (λ r l. rw (ne-eqb (kind r) h (λ e. omega arith))) kids)
 
-    not-found : (o : Option ℕ) (at : ℕ) → firstWhere (λ u. f (root j u)) kids ≡ o → Picked j o kids (before (sought h id) (between (p + 1) q w)) → flagOf id ≡ ok tt
-        → at ≡ p + 1 + before (sought h id) (between (p + 1) q w) → q ≤ at → result ≡ ok (0, ts)
+    not-found : (o : Option ℕ) (at : ℕ) → firstWhere (λ u. f (root j u)) kids ≡ o → Picked j o kids (before (sought h id) (recordsIn (p + 1) q w)) → flagOf id ≡ ok tt
+        → at ≡ p + 1 + before (sought h id) (recordsIn (p + 1) q w) → q ≤ at → result ≡ ok (0, ts)
     not-found none at e x fl a l = first-none d j pos (flagOf id) f ts (s .branch) (s .there) fl e
     not-found (some i) at e x fl a l = absurd (omega (arith, ends, child-low j kids i _ x))
 
-    loses : (o : Option ℕ) (at stop : ℕ) → firstWhere (λ u. f (root j u)) kids ≡ o → Picked j o kids (before (sought h id) (between (p + 1) q w)) → flagOf id ≡ ok tt
-        → at ≡ p + 1 + before (sought h id) (between (p + 1) q w) → at < q → stop ≡ at + 1 + run h (between (at + 1) q w) → Loses (up d (suc j)) ts result at stop
+    loses : (o : Option ℕ) (at stop : ℕ) → firstWhere (λ u. f (root j u)) kids ≡ o → Picked j o kids (before (sought h id) (recordsIn (p + 1) q w)) → flagOf id ≡ ok tt
+        → at ≡ p + 1 + before (sought h id) (recordsIn (p + 1) q w) → at < q → stop ≡ at + 1 + descendants h (recordsIn (at + 1) q w) → Loses (up d (suc j)) ts result at stop
     loses none at stop e x fl a l b = absurd (omega (arith, ends, x))
     loses (some i) at stop e x fl a l b =
-        let o = before (sought h id) (between (p + 1) q w) in
+        let o = before (sought h id) (recordsIn (p + 1) q w) in
         let n : p + 1 + suc o ≡ at + 1 = omega arith in
-        let c : between (at + 1) q w ≡ drop (suc o) (bind (flat j) kids) = rw (← n, ← kids-records) (sym (drop-drop (suc o) (p + 1) (chunks q w))) in
-        let z : run h (between (at + 1) q w) ≡ run h (drop (suc o) (bind (flat j) kids)) = ap (run h) c in
+        let c : recordsIn (at + 1) q w ≡ drop (suc o) (bind (flat j) kids) = rw (← n, ← kids-records) (sym (drop-drop (suc o) (p + 1) (chunks q w))) in
+        let z : descendants h (recordsIn (at + 1) q w) ≡ descendants h (drop (suc o) (bind (flat j) kids)) = ap (descendants h) c in
         record {
           after = _;
           accepted = first-some d j pos (flagOf id) f ts (s .branch) (s .there) i fl e;
@@ -212,7 +212,7 @@ module _ {w pos : List ℕ} {p q : ℕ} (s : Parent w pos p q) (serial : ℕ) (n
   unfolding stepBy
   first-flag l = rw (s .good, below .flagged (rw (lt-leb flag 1 l)))
 
-  module _ (l : flag ≤ 1) (at : ℕ) (a : at ≡ p + 1 + before (sought (length pos + 1) given) (between (p + 1) q w)) where
+  module _ (l : flag ≤ 1) (at : ℕ) (a : at ≡ p + 1 + before (sought (length pos + 1) given) (recordsIn (p + 1) q w)) where
     good-flag : flagOf given ≡ ok tt
     good-flag = rw (le-leb flag 1 l)
 
@@ -223,12 +223,12 @@ module _ {w pos : List ℕ} {p q : ℕ} (s : Parent w pos p q) (serial : ℕ) (n
         let z : stored (held w) - stored (held w) ≡ 0 = omega arith in
         rw (s .good, below .unfound at good-flag a b, layOut-read w (held w) (s .good), z)
 
-    module _ (b : at < q) (stop : ℕ) (c : stop ≡ at + 1 + run (length pos + 1) (between (at + 1) q w)) where
+    module _ (b : at < q) (stop : ℕ) (c : stop ≡ at + 1 + descendants (length pos + 1) (recordsIn (at + 1) q w)) where
       lost-child : Loses 4 (held w) (firstOn (length pos) pos given (held w)) at stop
       lost-child = below .lost at stop good-flag a b c
 
       pub first-removable : Removable at stop w
       first-removable = let t = lost-child in cut-removable w (s .good) (t .after) at stop (t .cut)
 
-      pub first-removed : (n : ℕ) (v : List ℕ) → n ≡ atomRecords (between at stop w) → v ≡ withoutRecords at stop w → Outcome w pos given (Done 1 n) v
+      pub first-removed : (n : ℕ) (v : List ℕ) → n ≡ atomRecords (recordsIn at stop w) → v ≡ withoutRecords at stop w → Outcome w pos given (Done 1 n) v
       first-removed n v x y = let t = lost-child in cut-step w (s .good) (t .after) at stop (t .cut) (firstRemoval pos given) (ap withFound (t .accepted)) n v x y

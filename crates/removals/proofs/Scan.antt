@@ -9,8 +9,8 @@ use lib.ListN.{getD}
 use borrow.Author.Tests.{eq-eqb, ne-eqb}
 use Rattle.machine.specs.Text.{matches, matchesOptional}
 use Rattle.machine.specs.Record.{Words, kind}
-use Rattle.seek.specs.Seek.{Within, recordAt, between}
-use Rattle.seek.proofs.Below.{record-word, record-kind, between-cons, between-nil}
+use Rattle.seek.specs.Seek.{Within, recordAt, recordsIn}
+use Rattle.seek.proofs.Below.{record-word, record-kind, recordsIn-cons, recordsIn-nil}
 use Rattle.removals.specs.Named.{Id, idOf, named, sought, before}
 
 -- ---- is_named
@@ -50,7 +50,7 @@ module _ (kind one two serial : ℕ) (name : List ℕ) (flag : ℕ) (text : List
 -- no record that was passed is the one sought
 pub record Passed (w : List ℕ) (from end h : ℕ) (id : Id) (at : ℕ) : Type 0 where
   pub high : at ≤ end
-  pub same : from + before (sought h id) (between from end w) ≡ at + before (sought h id) (between at end w)
+  pub same : from + before (sought h id) (recordsIn from end w) ≡ at + before (sought h id) (recordsIn at end w)
 
 before-miss : (p : Words → Bool) (at : ℕ) (r : Words) (rs : List Words) → p r ≡ false → at + before p (r ∷ rs) ≡ at + 1 + before p rs
 unfolding before
@@ -65,15 +65,15 @@ module _ (w : List ℕ) (from end h : ℕ) (id : Id) where
   passed-begin b = record { high = b .order; same = refl }
 
   module _ (at : ℕ) (s : Passed w from end h id at) where
-    pub passed-end : end ≤ at → at ≡ from + before (sought h id) (between from end w)
+    pub passed-end : end ≤ at → at ≡ from + before (sought h id) (recordsIn from end w)
     unfolding before
-    passed-end l = sym (s .same ∙ rw (between-nil w end at l, add-zero))
+    passed-end l = sym (s .same ∙ rw (recordsIn-nil w end at l, add-zero))
 
     passed-record : at < end → sought h id (recordAt at w) ≡ false → Passed w from end h id (at + 1)
     passed-record l e =
         record {
           high = omega arith;
-          same = s .same ∙ ap (λ (rs : List Words). at + before (sought h id) rs) (between-cons w end at l) ∙ before-miss (sought h id) at _ _ e;
+          same = s .same ∙ ap (λ (rs : List Words). at + before (sought h id) rs) (recordsIn-cons w end at l) ∙ before-miss (sought h id) at _ _ e;
         }
 
     pub passed-kind : at < end → (getD w (at * 12) 0 ≡ h → ⊥) → Passed w from end h id (at + 1)
@@ -87,6 +87,6 @@ module _ (w : List ℕ) (from end h : ℕ) (id : Id) where
       pub passed-other : x ≡ false → Passed w from end h id (at + 1)
       passed-other f = passed-record l (is-sought ∙ f)
 
-      pub passed-here : x ≡ true → at ≡ from + before (sought h id) (between from end w)
+      pub passed-here : x ≡ true → at ≡ from + before (sought h id) (recordsIn from end w)
       passed-here t =
-          sym (s .same ∙ ap (λ (rs : List Words). at + before (sought h id) rs) (between-cons w end at l) ∙ before-hit (sought h id) at _ _ (is-sought ∙ t))
+          sym (s .same ∙ ap (λ (rs : List Words). at + before (sought h id) rs) (recordsIn-cons w end at l) ∙ before-hit (sought h id) at _ _ (is-sought ∙ t))

@@ -4,7 +4,7 @@ ghost use Prim.Native.Nat.{_+_, _≤_};
 ghost use lib.ListN.{length};
 ghost use Rattle.machine.specs.Answer.{editedNumbers};
 ghost use Rattle.machine.specs.Edit.{stepBy};
-ghost use Rattle.seek.specs.Seek.{Good, Within, between, atomRecords};
+ghost use Rattle.seek.specs.Seek.{Good, Within, recordsIn, atomRecords};
 ghost use Rattle.removals.specs.Removal.{Removable, withoutRecords, removal};
 ghost use Rattle.removals.specs.Named.{idOf, named, sought, before, firstRemoval, chainById, residueById, conformerById, atomBySerialNumber};
 use machine::Edited;
@@ -15,7 +15,7 @@ use seek::Span;
 // The records from number p up to q go, and the trailer is set: how many atoms went.
 pub fn remove_span(store: &mut [u64], p: usize, q: usize) -> u64
     requires { ⌜ Removable p q (now store) ⌝ }
-    ensures { λ r. ⌜ r ≡ atomRecords (between p q (now (store .entry))) ⌝ }
+    ensures { λ r. ⌜ r ≡ atomRecords (recordsIn p q (now (store .entry))) ⌝ }
     ensures { λ r. ⌜ now (store .exit) ≡ withoutRecords p q (now (store .entry)) ⌝ }
 {
     let last = store.len() - 1;
@@ -84,7 +84,7 @@ fn first_named(
     other: &[u8],
 ) -> usize
     requires { ⌜ Within from end (now store) ⌝ }
-    ensures { λ r. ⌜ r ≡ from + before (sought kind (idOf serial (now (name .entry)) flag (now (other .entry)))) (between from end (now (store .entry))) ⌝ }
+    ensures { λ r. ⌜ r ≡ from + before (sought kind (idOf serial (now (name .entry)) flag (now (other .entry)))) (recordsIn from end (now (store .entry))) ⌝ }
 {
     let mut at: usize = from;
     while at < end {
@@ -120,7 +120,8 @@ fn remove_first(
 ) -> Edited
     requires { ⌜ Good (now store) ⌝ }
     requires { ⌜ (1 ≤ length (now position)) × (length (now position) ≤ 4) ⌝ }
-    ensures { λ r. ⌜ (editedNumbers r, now (store .exit)) ≡ stepBy (now (store .entry)) (firstRemoval (now (position .entry)) (idOf serial (now (name .entry)) flag (now (other .entry)))) ⌝ }
+    ensures { λ r. ⌜ (editedNumbers r, now (store .exit))
+        ≡ stepBy (now (store .entry)) (firstRemoval (now (position .entry)) (idOf serial (now (name .entry)) flag (now (other .entry)))) ⌝ }
 {
     let Span::At(p, q) = seek::locate(store, position) else {
         return Edited::Refused(Refusal::NoPosition);
@@ -157,7 +158,8 @@ pub fn remove_residue_by_id(
     code: &[u8],
 ) -> Edited
     requires { ⌜ Good (now store) ⌝ }
-    ensures { λ r. ⌜ (editedNumbers r, now (store .exit)) ≡ stepBy (now (store .entry)) (residueById model chain serial (record { flag = flag; text = now (code .entry) })) ⌝ }
+    ensures { λ r. ⌜ (editedNumbers r, now (store .exit))
+        ≡ stepBy (now (store .entry)) (residueById model chain serial (record { flag = flag; text = now (code .entry) })) ⌝ }
 {
     let position = [model, chain];
     remove_first(store, &position, serial, code, flag, code)
@@ -173,7 +175,8 @@ pub fn remove_conformer_by_id(
     location: &[u8],
 ) -> Edited
     requires { ⌜ Good (now store) ⌝ }
-    ensures { λ r. ⌜ (editedNumbers r, now (store .exit)) ≡ stepBy (now (store .entry)) (conformerById model chain residue (now (name .entry)) (record { flag = flag; text = now (location .entry) })) ⌝ }
+    ensures { λ r. ⌜ (editedNumbers r, now (store .exit))
+        ≡ stepBy (now (store .entry)) (conformerById model chain residue (now (name .entry)) (record { flag = flag; text = now (location .entry) })) ⌝ }
 {
     let position = [model, chain, residue];
     remove_first(store, &position, 0, name, flag, location)

@@ -22,7 +22,7 @@ use Rattle.machine.specs.declared.Node.{Node}
 use Rattle.machine.specs.declared.Node.the-variants.{Single, Binary, Not, Known}
 use Rattle.machine.specs.declared.RecordNumbers.{RecordNumbers}
 use Rattle.laws.specs.Lists.{All}
-use Rattle.terms.specs.Levels.{valueAt}
+use Rattle.terms.specs.Levels.{termValueAt}
 use Rattle.search.specs.Nodes.{nodeFor, nodesIn, checked, kinds, kindFor, lesser, lowestFrom}
 use Rattle.search.specs.declared.CheckedTree.the-variants.{Good}
 use Rattle.terms.proofs.Terms.{caseOf}
@@ -69,7 +69,7 @@ nodeKind Not = 5
 nodeKind (Known b) = 0
 
 -- with the kinds up to k alone known, a term that asks for a greater one is undecided
-hidden : (w : List ℕ) (at : RecordNumbers) (low k : ℕ) (residues atoms : List ℕ) (x : Term) → k < kindOf x → valueAt w at low k residues atoms x ≡ Undecided
+hidden : (w : List ℕ) (at : RecordNumbers) (low k : ℕ) (residues atoms : List ℕ) (x : Term) → k < kindOf x → termValueAt w at low k residues atoms x ≡ Undecided
 unfolding termValue window
 hidden w at low k residues atoms (ModelSerialNumber n) h = rw (lt-leb 1 k h, and-false (leb low 1))
 hidden w at low k residues atoms (ModelSerialNumberRange a b) h = rw (lt-leb 1 k h, and-false (leb low 1))
@@ -190,8 +190,8 @@ lowest-below k r (c ∷ p ∷ q ∷ rest) h =
     record { first = s .1; nodes = (code-kind c p q k (s .0), b .nodes) }
 
 pub below-lowest : (w : List ℕ) (at : RecordNumbers) (low k : ℕ) (residues atoms t : List ℕ) → checked (readTree t) ≡ Good → k < lowestFrom 5 t
-    → Undecided ≡ treeValue (valueAt w at low k residues atoms) t
+    → Undecided ≡ treeValue (termValueAt w at low k residues atoms) t
 unfolding treeValue isUndecided
 below-lowest w at low k residues atoms t good h =
-    let v : Term → Tri = valueAt w at low k residues atoms in
+    let v : Term → Tri = termValueAt w at low k residues atoms in
     sym (rw (tree-read v t good) (calm-one (run v (nodesIn t) []) (calm-run v k (hidden w at low k residues atoms) (nodesIn t) (lowest-below k 5 t h .nodes) [] refl)))

@@ -14,7 +14,7 @@ ghost use lib.ListN.{length};
 ghost use Rattle.machine.specs.Kleene as Kleene;
 ghost use Rattle.machine.specs.Query as Query;
 ghost use Rattle.machine.specs.declared.Node.the-variants.{Single};
-ghost use Rattle.terms.specs.Levels.{valueAt, numbersIn, Inside};
+ghost use Rattle.terms.specs.Levels.{termValueAt, numbersIn, Inside};
 ghost use Rattle.search.specs.Nodes as Nodes;
 ghost use Rattle.search.specs.Nodes.{kindFor, lowestFrom, nodeFor, sortFor, goodNode, leftBy, deeperBy, depthOf, maybeDepth, checked};
 ghost use Rattle.search.specs.Value.{Operand, Evaluated};
@@ -332,8 +332,10 @@ fn evaluate(
     residues: &[u64],
     atoms: &[u64],
 ) -> Part
-    requires { ⌜ Operand (valueAt (now words) (numbersIn (now place)) low high (now residues) (now atoms)) (now tree) × Inside (now words) (numbersIn (now place)) ⌝ }
-    ensures { λ r. ⌜ Evaluated (valueAt (now (words .entry)) (numbersIn (now (place .entry))) low high (now (residues .entry)) (now (atoms .entry))) (now (tree .entry)) r ⌝ }
+    requires { ⌜ Operand (termValueAt (now words) (numbersIn (now place)) low high (now residues) (now atoms)) (now tree)
+        × Inside (now words) (numbersIn (now place)) ⌝ }
+    ensures { λ r. ⌜ Evaluated (termValueAt (now (words .entry)) (numbersIn (now (place .entry))) low high (now (residues .entry)) (now (atoms .entry)))
+        (now (tree .entry)) r ⌝ }
 {
     let i = tree.len() - 3;
     let code = tree[i];
@@ -371,7 +373,8 @@ pub fn value(
     atoms: &[u64],
 ) -> Tri
     requires { ⌜ (checked (Query.readTree (now tree)) ≡ Good) × Inside (now words) (numbersIn (now place)) ⌝ }
-    ensures { λ r. ⌜ r ≡ Query.treeValue (valueAt (now (words .entry)) (numbersIn (now (place .entry))) low high (now (residues .entry)) (now (atoms .entry))) (now (tree .entry)) ⌝ }
+    ensures { λ r. ⌜ r ≡ Query.treeValue
+        (termValueAt (now (words .entry)) (numbersIn (now (place .entry))) low high (now (residues .entry)) (now (atoms .entry))) (now (tree .entry)) ⌝ }
 {
     let p = evaluate(tree, words, place, low, high, residues, atoms);
     p.value

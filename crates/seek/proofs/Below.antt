@@ -20,7 +20,7 @@ use Rattle.machine.specs.Edit.{up, root}
 use Rattle.laws.specs.Lists.{All}
 use Rattle.laws.specs.Grouped.{words-kind, flats-kinds, chunks-length}
 use Rattle.laws.specs.Scan.{Ends, ends-more, ends-flats}
-use Rattle.seek.specs.Seek.{Within, recordAt, between, run, child, atChild, toEnd, childSpan, spanAt, span}
+use Rattle.seek.specs.Seek.{Within, recordAt, recordsIn, descendants, child, atChild, toEnd, childSpan, spanAt, span}
 
 -- ---- records among the words
 
@@ -56,33 +56,33 @@ pub record-kind : (w : List ℕ) (at : ℕ) → kind (recordAt at w) ≡ getD w 
 record-kind w at = record-word w at 0 (omega arith) ∙ ap (λ (x : ℕ). getD w x 0) (add-zero (at * 12))
 
 module _ (w : List ℕ) (end at : ℕ) where
-  pub between-cons : at < end → between at end w ≡ recordAt at w ∷ between (at + 1) end w
-  between-cons h =
+  pub recordsIn-cons : at < end → recordsIn at end w ≡ recordAt at w ∷ recordsIn (at + 1) end w
+  recordsIn-cons h =
       let l : at < length (chunks end w) = rw chunks-length h in
       rw (drop-cons (chunks end w) at [], chunk-at end at w h, add-one)
 
-  pub between-nil : end ≤ at → between at end w ≡ []
-  between-nil h = let l : length (chunks end w) ≤ at = rw chunks-length h in drop-of-length-le (chunks end w) l
+  pub recordsIn-nil : end ≤ at → recordsIn at end w ≡ []
+  recordsIn-nil h = let l : length (chunks end w) ≤ at = rw chunks-length h in drop-of-length-le (chunks end w) l
 
 -- ---- below a kind
 
-pub run-over : (h : ℕ) (b rest : List Words) → All (λ r. h < kind r) b → Ends h rest → run h (b ++ rest) ≡ length b
-unfolding run
-run-over h [] [] a e = refl
-run-over h [] (r ∷ rest) a e = rw (le-ltb h (kind r) e)
-run-over h (r ∷ b) rest a e = rw (lt-ltb h (kind r) (a .0), run-over h b rest (a .1) e)
+pub descendants-over : (h : ℕ) (b rest : List Words) → All (λ r. h < kind r) b → Ends h rest → descendants h (b ++ rest) ≡ length b
+unfolding descendants
+descendants-over h [] [] a e = refl
+descendants-over h [] (r ∷ rest) a e = rw (le-ltb h (kind r) e)
+descendants-over h (r ∷ b) rest a e = rw (lt-ltb h (kind r) (a .0), descendants-over h b rest (a .1) e)
 
-run-within : (h : ℕ) (rs : List Words) → run h rs ≤ length rs
-unfolding run
-run-within h [] = omega arith
-run-within h (r ∷ rs) = go (ltb h (kind r)) (run-within h rs)
+descendants-within : (h : ℕ) (rs : List Words) → descendants h rs ≤ length rs
+unfolding descendants
+descendants-within h [] = omega arith
+descendants-within h (r ∷ rs) = go (ltb h (kind r)) (descendants-within h rs)
   where
-    go : (b : Bool) → run h rs ≤ length rs → cond b (suc (run h rs)) 0 ≤ suc (length rs)
+    go : (b : Bool) → descendants h rs ≤ length rs → cond b (suc (descendants h rs)) 0 ≤ suc (length rs)
     go true l = omega arith
     go false l = omega arith
 
-pub end-within : (w : List ℕ) (from end h : ℕ) → Within from end w → from + run h (between from end w) ≤ end
-end-within w from end h b = omega (arith, b .order, run-within h (between from end w), length-drop from (chunks end w), chunks-length end w)
+pub end-within : (w : List ℕ) (from end h : ℕ) → Within from end w → from + descendants h (recordsIn from end w) ≤ end
+end-within w from end h b = omega (arith, b .order, descendants-within h (recordsIn from end w), length-drop from (chunks end w), chunks-length end w)
 
 -- the i-th record of a kind, by the kind of the first record
 module _ {A : Type 0} (h : ℕ) (f : ℕ → List Words → Option A) where
@@ -137,8 +137,8 @@ child-within h (suc i) (r ∷ rs) o e = go (ltb (kind r) h) (eqb (kind r) h) (ch
     go false true f g q = map-within (child h i rs) (length rs) f o q
     go false false f g q = map-within (child h (suc i) rs) (length rs) g o q
 
-pub child-below : (w : List ℕ) (h i from end o : ℕ) → Within from end w → child h i (between from end w) ≡ some o → from + o < end
-child-below w h i from end o b e = omega (arith, b .order, child-within h i (between from end w) o e, length-drop from (chunks end w), chunks-length end w)
+pub child-below : (w : List ℕ) (h i from end o : ℕ) → Within from end w → child h i (recordsIn from end w) ≡ some o → from + o < end
+child-below w h i from end o b e = omega (arith, b .order, child-within h i (recordsIn from end w) o e, length-drop from (chunks end w), chunks-length end w)
 
 -- ---- the records of branches
 
@@ -183,20 +183,20 @@ module _ {A : Type 0} (g k : ℕ) (level : g + k ≡ 4) (f : ℕ → List Words 
       rw (append-assoc (flat k t), flat-root k t) (child-next (suc g) f i n _ _ (root-kind g k level t) ∙ child-over (suc g) f i (suc n) (under k t) more (under-kinds (suc g) k (omega arith) t)) in
       first ∙ rw p (child-branch i (n + length (flat k t)) ts rest e)
 
-run-under : (g k : ℕ) → g + k ≡ 4 → (m : ℕ) (t : Branch k) (after : List Words) → Ends (suc g) after → suc m + run (suc g) (under k t ++ after) ≡ m + size k t
-run-under g k l m t after e =
+descendants-under : (g k : ℕ) → g + k ≡ 4 → (m : ℕ) (t : Branch k) (after : List Words) → Ends (suc g) after → suc m + descendants (suc g) (under k t ++ after) ≡ m + size k t
+descendants-under g k l m t after e =
     let q = ap length (flat-root k t) in
-    rw (run-over (suc g) (under k t) after (under-kinds (suc g) k (omega arith) t) e) (omega arith)
+    rw (descendants-over (suc g) (under k t) after (under-kinds (suc g) k (omega arith) t) e) (omega arith)
 
 -- the i-th branch's span
 pub child-span : (g k : ℕ) → g + k ≡ 4 → (i n : ℕ) (ts : List (Branch k)) (rest : List Words) → Ends g rest → childSpan (suc g) i n (bind (flat k) ts ++ rest) ≡ spanAt 0 k (i ∷ []) n ts
 unfolding spanAt
 child-span g k l i n ts rest e =
-    child-branch g k l (toEnd (suc g)) (λ t. some (t .0, t .0 + size k (t .1))) (λ m t after a. ap (λ (x : ℕ). some (m, x)) (run-under g k l m t after a)) i n ts rest e
+    child-branch g k l (toEnd (suc g)) (λ t. some (t .0, t .0 + size k (t .1))) (λ m t after a. ap (λ (x : ℕ). some (m, x)) (descendants-under g k l m t after a)) i n ts rest e
 
 -- the span that a position has among the records, below one of kind g: with no index left it is that of the record before them
 unfoldable pub spanIn : ℕ → List ℕ → ℕ → List Words → Option (ℕ × ℕ)
-spanIn g [] n rs = some (n - 1, n + run g rs)
+spanIn g [] n rs = some (n - 1, n + descendants g rs)
 spanIn g (i ∷ is) n rs = atChild (suc g) i (λ m after. spanIn (suc g) is (suc m) after) n rs
 
 pub span-among : (d j g : ℕ) (pos : List ℕ) (n : ℕ) (ts : List (Branch (up d j))) (rest : List Words) → g + up d j ≡ 4 → length pos ≡ suc d → Ends g rest
@@ -207,7 +207,7 @@ span-among zero j g (i ∷ (x ∷ is)) n ts rest level len e = absurd (omega ari
 span-among zero j g (i ∷ []) n ts rest level len e = child-branch g j level (λ m after. spanIn (suc g) [] (suc m) after) (λ t. some (t .0, t .0 + size j (t .1))) agree i n ts rest e
   where
     agree : (m : ℕ) (t : Branch j) (after : List Words) → Ends (suc g) after → spanIn (suc g) [] (suc m) (under j t ++ after) ≡ some (m, m + size j t)
-    agree m t after e = let p : suc m - 1 ≡ m = omega arith in rw (p, run-under g j level m t after e)
+    agree m t after e = let p : suc m - 1 ≡ m = omega arith in rw (p, descendants-under g j level m t after e)
 span-among (suc d) j g (i ∷ is) n ts rest level len e =
     child-branch g (suc (up d j)) level (λ m after. spanIn (suc g) is (suc m) after) (λ t. spanAt d j is (suc (t .0)) (t .1 .1))
     (λ m t after a. span-among d j (suc g) is (suc m) (t .1) after (omega arith) (omega arith) a)

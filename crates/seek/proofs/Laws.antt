@@ -21,7 +21,7 @@ use Rattle.laws.specs.Lists.{and-then, sum-append, bind-append}
 use Rattle.laws.specs.Grouped.{words-kind, group-flats, chunks-length}
 use Rattle.laws.specs.Layout.{records-read, read-parts}
 use Rattle.laws.specs.Places.{Around, Spot}
-use Rattle.seek.specs.Seek.{held, Good, Within, between, isAtom, atomRecords, spanAt, span, spanOf}
+use Rattle.seek.specs.Seek.{held, Good, Within, recordsIn, isAtom, atomRecords, spanAt, span, spanOf}
 use Rattle.seek.proofs.Below.{chunks-take, flat-root}
 use Rattle.seek.specs.declared.Span as Span
 
@@ -284,10 +284,10 @@ module _ (w : List ℕ) (g : Good w) where
       let l = read-parts w (held w) g .low in
       record { order = omega arith; room = omega arith }
 
-  pub whole-records : between 0 (length (records (held w))) w ≡ records (held w)
+  pub whole-records : recordsIn 0 (length (records (held w))) w ≡ records (held w)
   whole-records = rw (records-count w (held w) g) (sym (records-read w (held w) g))
 
-  pub whole-atoms : atomRecords (between 0 (length (records (held w))) w) ≡ stored (held w)
+  pub whole-atoms : atomRecords (recordsIn 0 (length (records (held w))) w) ≡ stored (held w)
   whole-atoms = rw whole-records (atoms-stored (held w))
 
   -- those of the branch at a position
@@ -306,7 +306,7 @@ module _ (w : List ℕ) (g : Good w) where
         let o = stop-low in
         record { order = omega arith; room = omega arith }
 
-    pub stands-records : between start stop w ≡ flat j (s .branch)
+    pub stands-records : recordsIn start stop w ≡ flat j (s .branch)
     stands-records =
         let t = s .spot in
         let o = stop-low in
@@ -315,5 +315,5 @@ module _ (w : List ℕ) (g : Good w) where
         let l : length (t .pre ++ flat j (s .branch)) ≡ stop = omega (arith, length-append (t .pre) (flat j (s .branch)), s .last) in
         rw (c, whole-records, whole, t .was, ← append-assoc (t .pre), take-at (t .pre ++ flat j (s .branch)) (t .post) stop l) (drop-at (t .pre) (flat j (s .branch)) start (sym f))
 
-    pub stands-atoms : j ≤ 4 → atomRecords (between start stop w) ≡ atomCount j (s .branch)
+    pub stands-atoms : j ≤ 4 → atomRecords (recordsIn start stop w) ≡ atomCount j (s .branch)
     stands-atoms l = rw stands-records (atoms-branch j l (s .branch))

@@ -13,8 +13,8 @@ use Rattle.machine.specs.Lists.{andThen}
 use Rattle.machine.specs.Record.{Words}
 use Rattle.machine.specs.Store.{records, chunks}
 use Rattle.laws.specs.Layout.{records-read, read-parts, read-length, length-parts}
-use Rattle.seek.specs.Seek.{Good, Within, held, recordAt, between, run, child, atChild, childStart, toEnd, childSpan, atomRecords, span, startOf, spanOf}
-use Rattle.seek.proofs.Below.{between-cons, record-kind, between-nil, child-pass, child-next, child-here, child-low, child-nil, child-below, spanIn, span-machine}
+use Rattle.seek.specs.Seek.{Good, Within, held, recordAt, recordsIn, descendants, child, atChild, childStart, toEnd, childSpan, atomRecords, span, startOf, spanOf}
+use Rattle.seek.proofs.Below.{recordsIn-cons, record-kind, recordsIn-nil, child-pass, child-next, child-here, child-low, child-nil, child-below, spanIn, span-machine}
 use Rattle.seek.proofs.Laws.{records-count}
 use Rattle.seek.specs.declared.Span as Span
 use Rattle.seek.specs.declared.Start as Start
@@ -23,114 +23,114 @@ use Rattle.seek.specs.declared.Start as Start
 
 pub record Ran (w : List ℕ) (from end h at : ℕ) : Type 0 where
   pub high : at ≤ end
-  pub same : from + run h (between from end w) ≡ at + run h (between at end w)
+  pub same : from + descendants h (recordsIn from end w) ≡ at + descendants h (recordsIn at end w)
 
 pub ran-begin : (w : List ℕ) (from end h : ℕ) → Within from end w → Ran w from end h from
 ran-begin w from end h i = record { high = i .order; same = refl }
 
 module _ (w : List ℕ) (from end h at : ℕ) (s : Ran w from end h at) where
   pub ran-on : at < end → h < getD w (at * 12) 0 → Ran w from end h (at + 1)
-  unfolding run
+  unfolding descendants
   ran-on l k =
       record {
         high = omega arith;
-        same = s .same ∙ rw (between-cons w end at l, record-kind w at, lt-ltb h (getD w (at * 12) 0) k) (omega arith);
+        same = s .same ∙ rw (recordsIn-cons w end at l, record-kind w at, lt-ltb h (getD w (at * 12) 0) k) (omega arith);
       }
 
-  pub ran-stop : at < end → getD w (at * 12) 0 ≤ h → at ≡ from + run h (between from end w)
-  unfolding run
-  ran-stop l k = sym (s .same ∙ rw (between-cons w end at l, record-kind w at, le-ltb h (getD w (at * 12) 0) k, add-zero))
+  pub ran-stop : at < end → getD w (at * 12) 0 ≤ h → at ≡ from + descendants h (recordsIn from end w)
+  unfolding descendants
+  ran-stop l k = sym (s .same ∙ rw (recordsIn-cons w end at l, record-kind w at, le-ltb h (getD w (at * 12) 0) k, add-zero))
 
-  pub ran-end : end ≤ at → at ≡ from + run h (between from end w)
-  unfolding run
-  ran-end l = sym (s .same ∙ rw (between-nil w end at l, add-zero))
+  pub ran-end : end ≤ at → at ≡ from + descendants h (recordsIn from end w)
+  unfolding descendants
+  ran-end l = sym (s .same ∙ rw (recordsIn-nil w end at l, add-zero))
 
 -- ---- start_of
 
 pub record Sought (w : List ℕ) (from end h i at left : ℕ) : Type 0 where
   pub high : at ≤ end
-  pub same : childStart h i from (between from end w) ≡ childStart h left at (between at end w)
+  pub same : childStart h i from (recordsIn from end w) ≡ childStart h left at (recordsIn at end w)
 
 pub sought-begin : (w : List ℕ) (from end h i : ℕ) → Within from end w → Sought w from end h i from i
 sought-begin w from end h i b = record { high = b .order; same = refl }
 
 module _ (w : List ℕ) (from end h i at left : ℕ) (s : Sought w from end h i at left) where
-  pub sought-out : end ≤ at → Start.the-variants.Missing ≡ startOf (childStart h i from (between from end w))
-  sought-out l = rw (s .same, between-nil w end at l, child-nil h (λ m after. some m) left at)
+  pub sought-out : end ≤ at → Start.the-variants.Missing ≡ startOf (childStart h i from (recordsIn from end w))
+  sought-out l = rw (s .same, recordsIn-nil w end at l, child-nil h (λ m after. some m) left at)
 
   module _ (l : at < end) where
     -- the search from the record at hand on
-    from-here : childStart h i from (between from end w) ≡ childStart h left at (recordAt at w ∷ between (at + 1) end w)
-    from-here = s .same ∙ ap (childStart h left at) (between-cons w end at l)
+    from-here : childStart h i from (recordsIn from end w) ≡ childStart h left at (recordAt at w ∷ recordsIn (at + 1) end w)
+    from-here = s .same ∙ ap (childStart h left at) (recordsIn-cons w end at l)
 
     pub sought-pass : h ≤ getD w (at * 12) 0 → (getD w (at * 12) 0 ≡ h → ⊥) → Sought w from end h i (at + 1) left
     sought-pass k n =
         let e = record-kind w at in
-        record { high = omega arith; same = from-here ∙ rw add-one (child-pass h (λ m after. some m) left at (recordAt at w) (between (suc at) end w) (omega arith)) }
+        record { high = omega arith; same = from-here ∙ rw add-one (child-pass h (λ m after. some m) left at (recordAt at w) (recordsIn (suc at) end w) (omega arith)) }
 
     pub sought-next : getD w (at * 12) 0 ≡ h → (left ≡ 0 → ⊥) → Sought w from end h i (at + 1) (left - 1)
     sought-next k n =
         let q : left ≡ suc (left - 1) = omega arith in
         record {
           high = omega arith;
-          same = from-here ∙ ap (λ (x : ℕ). childStart h x at (recordAt at w ∷ between (at + 1) end w)) q ∙ rw add-one (child-next h (λ m after. some m) (left - 1) at (recordAt at w) (between (suc at) end w) (record-kind w at ∙ k));
+          same = from-here ∙ ap (λ (x : ℕ). childStart h x at (recordAt at w ∷ recordsIn (at + 1) end w)) q ∙ rw add-one (child-next h (λ m after. some m) (left - 1) at (recordAt at w) (recordsIn (suc at) end w) (record-kind w at ∙ k));
         }
 
-    pub sought-low : getD w (at * 12) 0 < h → Start.the-variants.Missing ≡ startOf (childStart h i from (between from end w))
+    pub sought-low : getD w (at * 12) 0 < h → Start.the-variants.Missing ≡ startOf (childStart h i from (recordsIn from end w))
     sought-low k =
         let e = record-kind w at in
-        rw (from-here, child-low h (λ m after. some m) left at (recordAt at w) (between (at + 1) end w) (omega arith))
+        rw (from-here, child-low h (λ m after. some m) left at (recordAt at w) (recordsIn (at + 1) end w) (omega arith))
 
-    pub sought-here : getD w (at * 12) 0 ≡ h → left ≡ 0 → Start.the-variants.At at ≡ startOf (childStart h i from (between from end w))
+    pub sought-here : getD w (at * 12) 0 ≡ h → left ≡ 0 → Start.the-variants.At at ≡ startOf (childStart h i from (recordsIn from end w))
     sought-here k z =
         sym
         (ap startOf
-        (from-here ∙ ap (λ (x : ℕ). childStart h x at (recordAt at w ∷ between (at + 1) end w)) z ∙ child-here h (λ m after. some m) at (recordAt at w) (between (at + 1) end w) (record-kind w at ∙ k)))
+        (from-here ∙ ap (λ (x : ℕ). childStart h x at (recordAt at w ∷ recordsIn (at + 1) end w)) z ∙ child-here h (λ m after. some m) at (recordAt at w) (recordsIn (at + 1) end w) (record-kind w at ∙ k)))
 
 -- ---- what start_of finds
 
 -- the record found, by its offset
 pub record Met (h i from end : ℕ) (w : List ℕ) (at : ℕ) : Type 0 where
   pub offset : ℕ
-  pub found : child h i (between from end w) ≡ some offset
+  pub found : child h i (recordsIn from end w) ≡ some offset
   pub number : from + offset ≡ at
   pub below : at < end
 
 module _ (w : List ℕ) (h i from end : ℕ) where
-  pub met : (r : Start.Start) (at : ℕ) → Within from end w → r ≡ startOf (childStart h i from (between from end w)) → r ≡ Start.the-variants.At at → Met h i from end w at
-  met r at b e m = go (child h i (between from end w)) refl (sym e ∙ m)
+  pub met : (r : Start.Start) (at : ℕ) → Within from end w → r ≡ startOf (childStart h i from (recordsIn from end w)) → r ≡ Start.the-variants.At at → Met h i from end w at
+  met r at b e m = go (child h i (recordsIn from end w)) refl (sym e ∙ m)
     where
-      go : (c : Option ℕ) → child h i (between from end w) ≡ c → startOf (andThen c (λ o. some (from + o))) ≡ Start.the-variants.At at → Met h i from end w at
+      go : (c : Option ℕ) → child h i (recordsIn from end w) ≡ c → startOf (andThen c (λ o. some (from + o))) ≡ Start.the-variants.At at → Met h i from end w at
       go none q p = let z : _≡_ {A = ℕ} 0 1 = cc in absurd (omega arith)
       go (some o) q p = let n : from + o ≡ at = cc in record { offset = o; found = q; number = n; below = omega (arith, child-below w h i from end o b q) }
 
-  pub unmet : {A : Type 0} (f : ℕ → List Words → Option A) → startOf (childStart h i from (between from end w)) ≡ Start.the-variants.Missing → atChild h i f from (between from end w) ≡ none
-  unmet {A} f e = go (child h i (between from end w)) e
+  pub unmet : {A : Type 0} (f : ℕ → List Words → Option A) → startOf (childStart h i from (recordsIn from end w)) ≡ Start.the-variants.Missing → atChild h i f from (recordsIn from end w) ≡ none
+  unmet {A} f e = go (child h i (recordsIn from end w)) e
     where
-      go : (c : Option ℕ) → startOf (andThen c (λ o. some (from + o))) ≡ Start.the-variants.Missing → andThen c (λ o. f (from + o) (drop (suc o) (between from end w))) ≡ none
+      go : (c : Option ℕ) → startOf (andThen c (λ o. some (from + o))) ≡ Start.the-variants.Missing → andThen c (λ o. f (from + o) (drop (suc o) (recordsIn from end w))) ≡ none
       go none p = refl
       go (some o) p = let z : _≡_ {A = ℕ} 0 1 = cc in absurd (omega arith)
 
-  pub met-is : {A : Type 0} (f : ℕ → List Words → Option A) (at : ℕ) → Met h i from end w at → atChild h i f from (between from end w) ≡ f at (between (at + 1) end w)
+  pub met-is : {A : Type 0} (f : ℕ → List Words → Option A) (at : ℕ) → Met h i from end w at → atChild h i f from (recordsIn from end w) ≡ f at (recordsIn (at + 1) end w)
   met-is f at m =
       let q : from + suc (m .offset) ≡ at + 1 = omega (arith, m .number) in
       rw (m .found, drop-drop (suc (m .offset)) from (chunks end w), q, m .number)
 
 -- ---- child
 
-pub child-missing : (w : List ℕ) (h i from end : ℕ) (r : Start.Start) → r ≡ startOf (childStart h i from (between from end w)) → r ≡ Start.the-variants.Missing
-    → Span.the-variants.Missing ≡ spanOf (childSpan h i from (between from end w))
+pub child-missing : (w : List ℕ) (h i from end : ℕ) (r : Start.Start) → r ≡ startOf (childStart h i from (recordsIn from end w)) → r ≡ Start.the-variants.Missing
+    → Span.the-variants.Missing ≡ spanOf (childSpan h i from (recordsIn from end w))
 child-missing w h i from end r e m = rw (unmet w h i from end (toEnd h) (sym e ∙ m))
 
-pub after-child : (w : List ℕ) (h i from end : ℕ) (r : Start.Start) (at : ℕ) → Within from end w → r ≡ startOf (childStart h i from (between from end w)) → r ≡ Start.the-variants.At at
+pub after-child : (w : List ℕ) (h i from end : ℕ) (r : Start.Start) (at : ℕ) → Within from end w → r ≡ startOf (childStart h i from (recordsIn from end w)) → r ≡ Start.the-variants.At at
     → Within (at + 1) end w
 after-child w h i from end r at b e m = record { order = omega (arith, met w h i from end r at b e m .below); room = b .room }
 
-pub child-is : (w : List ℕ) (h i from end : ℕ) (r : Start.Start) (at stop : ℕ) → Within from end w → r ≡ startOf (childStart h i from (between from end w)) → r ≡ Start.the-variants.At at → stop ≡ at + 1 + run h (between (at + 1) end w)
-    → Span.the-variants.At at stop ≡ spanOf (childSpan h i from (between from end w))
+pub child-is : (w : List ℕ) (h i from end : ℕ) (r : Start.Start) (at stop : ℕ) → Within from end w → r ≡ startOf (childStart h i from (recordsIn from end w)) → r ≡ Start.the-variants.At at → stop ≡ at + 1 + descendants h (recordsIn (at + 1) end w)
+    → Span.the-variants.At at stop ≡ spanOf (childSpan h i from (recordsIn from end w))
 child-is w h i from end r at stop b c d e =
     let m = met w h i from end r at b c d in
-    let q : stop ≡ suc at + run h (between (at + 1) end w) = e ∙ ap (λ (x : ℕ). x + run h (between (at + 1) end w)) (add-one at) in
+    let q : stop ≡ suc at + descendants h (recordsIn (at + 1) end w) = e ∙ ap (λ (x : ℕ). x + descendants h (recordsIn (at + 1) end w)) (add-one at) in
     rw (met-is w h i from end (toEnd h) at m, q)
 
 -- ---- record_count
@@ -149,7 +149,7 @@ pub record Located (w pos : List ℕ) (count level at : ℕ) : Type 0 where
   pub high : at ≤ count
   pub deep : level ≤ length pos
   pub low : level ≤ at
-  pub same : span pos (held w) ≡ spanIn level (drop level pos) at (between at count w)
+  pub same : span pos (held w) ≡ spanIn level (drop level pos) at (recordsIn at count w)
 
 pub locate-begin : (w pos : List ℕ) (count : ℕ) → Good w → 1 ≤ length pos → length pos ≤ 5 → count ≡ length (records (held w)) → Located w pos count 0 0
 locate-begin w pos count g lo hi e =
@@ -173,15 +173,15 @@ module _ (w pos : List ℕ) (count level at : ℕ) (s : Located w pos count leve
   located-within = record { order = s .high; room = s .room }
 
   -- one index more
-  one-index : level < length pos → span pos (held w) ≡ atChild (level + 1) (getD pos level 0) (onward level pos) at (between at count w)
+  one-index : level < length pos → span pos (held w) ≡ atChild (level + 1) (getD pos level 0) (onward level pos) at (recordsIn at count w)
   unfolding spanIn
   one-index l = s .same ∙ rw (drop-cons pos level 0 l, add-one)
 
-  pub located-below : (r : Start.Start) (number : ℕ) → r ≡ startOf (childStart (level + 1) (getD pos level 0) at (between at count w)) → r ≡ Start.the-variants.At number
+  pub located-below : (r : Start.Start) (number : ℕ) → r ≡ startOf (childStart (level + 1) (getD pos level 0) at (recordsIn at count w)) → r ≡ Start.the-variants.At number
       → Met (level + 1) (getD pos level 0) at count w number
   located-below r number e q = met w (level + 1) (getD pos level 0) at count r number located-within e q
 
-  pub located-on : (r : Start.Start) (number : ℕ) → level < length pos → r ≡ startOf (childStart (level + 1) (getD pos level 0) at (between at count w)) → r ≡ Start.the-variants.At number
+  pub located-on : (r : Start.Start) (number : ℕ) → level < length pos → r ≡ startOf (childStart (level + 1) (getD pos level 0) at (recordsIn at count w)) → r ≡ Start.the-variants.At number
       → Located w pos count (level + 1) (number + 1)
   located-on r number l e q =
       let m = located-below r number e q in
@@ -193,15 +193,15 @@ module _ (w pos : List ℕ) (count level at : ℕ) (s : Located w pos count leve
         high = omega arith;
         deep = omega arith;
         low = omega arith;
-        same = one-index l ∙ met-is w (level + 1) (getD pos level 0) at count (onward level pos) number m ∙ ap (λ (x : ℕ). spanIn (level + 1) (drop (level + 1) pos) x (between (number + 1) count w)) (sym (add-one number));
+        same = one-index l ∙ met-is w (level + 1) (getD pos level 0) at count (onward level pos) number m ∙ ap (λ (x : ℕ). spanIn (level + 1) (drop (level + 1) pos) x (recordsIn (number + 1) count w)) (sym (add-one number));
       }
 
-  pub located-missing : (r : Start.Start) → level < length pos → r ≡ startOf (childStart (level + 1) (getD pos level 0) at (between at count w)) → r ≡ Start.the-variants.Missing
+  pub located-missing : (r : Start.Start) → level < length pos → r ≡ startOf (childStart (level + 1) (getD pos level 0) at (recordsIn at count w)) → r ≡ Start.the-variants.Missing
       → Span.the-variants.Missing ≡ spanOf (span pos (held w))
   located-missing r l e m =
       sym (ap spanOf (one-index l ∙ unmet w (level + 1) (getD pos level 0) at count (onward level pos) (sym e ∙ m)))
 
-  pub located-end : (stop : ℕ) → length pos ≤ level → stop ≡ at + run level (between at count w) → Span.the-variants.At (at - 1) stop ≡ spanOf (span pos (held w))
+  pub located-end : (stop : ℕ) → length pos ≤ level → stop ≡ at + descendants level (recordsIn at count w) → Span.the-variants.At (at - 1) stop ≡ spanOf (span pos (held w))
   unfolding spanIn
   located-end stop l e = rw (s .same, drop-of-length-le pos l, e)
 
@@ -210,7 +210,7 @@ module _ (w pos : List ℕ) (count level at : ℕ) (s : Located w pos count leve
 pub record Counted (w : List ℕ) (from end atoms at : ℕ) : Type 0 where
   pub high : at ≤ end
   pub few : atoms ≤ at
-  pub total : atomRecords (between from end w) ≡ atoms + atomRecords (between at end w)
+  pub total : atomRecords (recordsIn from end w) ≡ atoms + atomRecords (recordsIn at end w)
 
 pub count-begin : (w : List ℕ) (from end : ℕ) → Within from end w → Counted w from end 0 from
 count-begin w from end b = record { high = b .order; few = omega arith; total = sym (zero-add _) }
@@ -223,7 +223,7 @@ module _ (w : List ℕ) (from end atoms at : ℕ) (s : Counted w from end atoms 
       record {
         high = omega arith;
         few = omega arith;
-        total = s .total ∙ rw (between-cons w end at l, record-kind w at, eq-eqb (getD w (at * 12) 0) 5 k) (omega arith);
+        total = s .total ∙ rw (recordsIn-cons w end at l, record-kind w at, eq-eqb (getD w (at * 12) 0) 5 k) (omega arith);
       }
 
   pub count-none : at < end → (getD w (at * 12) 0 ≡ 5 → ⊥) → Counted w from end atoms (at + 1)
@@ -233,9 +233,9 @@ module _ (w : List ℕ) (from end atoms at : ℕ) (s : Counted w from end atoms 
       record {
         high = omega arith;
         few = omega arith;
-        total = s .total ∙ rw (between-cons w end at l, record-kind w at, ne-eqb (getD w (at * 12) 0) 5 k) (omega arith);
+        total = s .total ∙ rw (recordsIn-cons w end at l, record-kind w at, ne-eqb (getD w (at * 12) 0) 5 k) (omega arith);
       }
 
-  pub count-end : end ≤ at → atoms ≡ atomRecords (between from end w)
+  pub count-end : end ≤ at → atoms ≡ atomRecords (recordsIn from end w)
   unfolding atomRecords
-  count-end l = sym (s .total ∙ rw (between-nil w end at l, add-zero))
+  count-end l = sym (s .total ∙ rw (recordsIn-nil w end at l, add-zero))

@@ -30,8 +30,8 @@ abbrev pub recordAt : ℕ → List ℕ → Words
 recordAt n w = take 12 (drop (n * 12) w)
 
 -- the records from number `from` up to `end`, and that the words have them
-abbrev pub between : ℕ → ℕ → List ℕ → List Words
-between from end w = drop from (chunks end w)
+abbrev pub recordsIn : ℕ → ℕ → List ℕ → List Words
+recordsIn from end w = drop from (chunks end w)
 
 pub record Within (from end : ℕ) (w : List ℕ) : Type 0 where
   pub order : from ≤ end
@@ -40,9 +40,9 @@ pub record Within (from end : ℕ) (w : List ℕ) : Type 0 where
 -- ---- over the records
 
 -- how many records at the front have a kind above h
-unfoldable pub run : ℕ → List Words → ℕ
-run h [] = 0
-run h (r ∷ rs) = cond (ltb h (kind r)) (suc (run h rs)) 0
+unfoldable pub descendants : ℕ → List Words → ℕ
+descendants h [] = 0
+descendants h (r ∷ rs) = cond (ltb h (kind r)) (suc (descendants h rs)) 0
 
 -- the offset of the i-th record of kind h, before any record of a lower kind
 unfoldable pub child : ℕ → ℕ → List Words → Option ℕ
@@ -59,7 +59,7 @@ childStart h i n rs = atChild h i (λ m after. some m) n rs
 
 -- a record of kind h and the number at which its descendants end
 abbrev pub toEnd : ℕ → ℕ → List Words → Option (ℕ × ℕ)
-toEnd h m after = some (m, suc m + run h after)
+toEnd h m after = some (m, suc m + descendants h after)
 
 abbrev pub childSpan : ℕ → ℕ → ℕ → List Words → Option (ℕ × ℕ)
 childSpan h i n rs = atChild h i (toEnd h) n rs

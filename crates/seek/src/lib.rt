@@ -3,7 +3,7 @@ ghost use mathlib.Core.Path.{_≡_};
 ghost use Prim.Native.Nat.{_+_, _*_, _≤_};
 ghost use lib.ListN.{length};
 ghost use Rattle.machine.specs.Store.{records};
-ghost use Rattle.seek.specs.Seek.{Good, Within, held, between, run, childStart, childSpan, atomRecords, span, startOf, spanOf};
+ghost use Rattle.seek.specs.Seek.{Good, Within, held, recordsIn, descendants, childStart, childSpan, atomRecords, span, startOf, spanOf};
 use machine::Record;
 
 // The number of a record, and the number after that of its last descendant.
@@ -21,7 +21,7 @@ enum Start {
 // The first record of the kind or of a lower one, from `from` on; `end` where there is none before it.
 pub fn end_of(store: &[u64], from: usize, end: usize, kind: u64) -> usize
     requires { ⌜ Within from end (now store) ⌝ }
-    ensures { λ r. ⌜ r ≡ from + run kind (between from end (now (store .entry))) ⌝ }
+    ensures { λ r. ⌜ r ≡ from + descendants kind (recordsIn from end (now (store .entry))) ⌝ }
 {
     let mut at: usize = from;
     while at < end {
@@ -36,7 +36,7 @@ pub fn end_of(store: &[u64], from: usize, end: usize, kind: u64) -> usize
 // The index-th record of a kind among the records from `from` up to `end`, before one of a lower kind.
 fn start_of(store: &[u64], from: usize, end: usize, kind: u64, index: u64) -> Start
     requires { ⌜ Within from end (now store) ⌝ }
-    ensures { λ r. ⌜ r ≡ startOf (childStart kind index from (between from end (now (store .entry)))) ⌝ }
+    ensures { λ r. ⌜ r ≡ startOf (childStart kind index from (recordsIn from end (now (store .entry)))) ⌝ }
 {
     let mut at: usize = from;
     let mut left: u64 = index;
@@ -61,7 +61,7 @@ fn start_of(store: &[u64], from: usize, end: usize, kind: u64, index: u64) -> St
 // That record, with where its descendants end.
 pub fn child(store: &[u64], from: usize, end: usize, kind: u64, index: u64) -> Span
     requires { ⌜ Within from end (now store) ⌝ }
-    ensures { λ r. ⌜ r ≡ spanOf (childSpan kind index from (between from end (now (store .entry)))) ⌝ }
+    ensures { λ r. ⌜ r ≡ spanOf (childSpan kind index from (recordsIn from end (now (store .entry)))) ⌝ }
 {
     let Start::At(at) = start_of(store, from, end, kind, index) else {
         return Span::Missing;
@@ -99,7 +99,7 @@ pub fn locate(store: &[u64], position: &[u64]) -> Span
 // How many of the records from `from` up to `end` are atoms.
 pub fn atoms_in(store: &[u64], from: usize, end: usize) -> usize
     requires { ⌜ Within from end (now store) ⌝ }
-    ensures { λ r. ⌜ r ≡ atomRecords (between from end (now (store .entry))) ⌝ }
+    ensures { λ r. ⌜ r ≡ atomRecords (recordsIn from end (now (store .entry))) ⌝ }
 {
     let mut atoms: usize = 0;
     let mut at: usize = from;

@@ -31,7 +31,7 @@ use Rattle.search.specs.Nodes.{checked}
 use Rattle.search.proofs.Laws.{tree-then, tree-refused}
 use Rattle.search.specs.declared.CheckedTree as CheckedTree
 use Rattle.prunings.specs.Prune.{Laid, Compacted, kept}
-use Rattle.prunings.specs.Words.{compact-start, compact-skip, compact-keep, below-within, atoms-gap, atoms-laid, atoms-removed}
+use Rattle.prunings.proofs.Words.{compact-start, compact-skip, compact-keep, below-within, atoms-gap, atoms-laid, atoms-removed}
 use Rattle.selections.specs.Spared.{spared, staying}
 
 -- ---- `stays`

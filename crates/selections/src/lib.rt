@@ -68,7 +68,8 @@ fn compact(
     atoms: &[u64],
 ) -> usize
     requires { ⌜ Within from end (now store) × (checked (readTree (now tree)) ≡ Tree.Good) ⌝ }
-    ensures { λ r. ⌜ Compacted (staying (now (residues .entry)) (now (atoms .entry)) (now (tree .entry))) from end (now (store .entry)) r (now (store .exit)) ⌝ }
+    ensures { λ r. ⌜ Compacted (staying (now (residues .entry)) (now (atoms .entry)) (now (tree .entry)))
+        from end (now (store .entry)) r (now (store .exit)) ⌝ }
 {
     let mut at: usize = from;
     let mut to: usize = from;

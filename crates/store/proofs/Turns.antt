@@ -44,8 +44,8 @@ module _ (s : List ℕ) (i : ℕ) (e : all (eqb 0) (drop i s) ≡ all (eqb 0) s)
 -- ---- the records
 
 -- those from word `at` up to word `last`
-abbrev between : List ℕ → ℕ → ℕ → List Words
-between s at last = chunks ((last - at) / 12) (drop at s)
+abbrev recordsBehind : List ℕ → ℕ → ℕ → List Words
+recordsBehind s at last = chunks ((last - at) / 12) (drop at s)
 
 -- the twelve words before word `to`, as the code takes them
 abbrev pub recordBefore : List ℕ → ℕ → Words
@@ -60,8 +60,8 @@ module _ (s : List ℕ) (to : ℕ) (some : 0 < to) (starts : to % 12 ≡ 0) wher
       let e : to - 12 + 0 ≡ to - 12 = omega arith in
       getD-take (to - (to - 12)) (drop (to - 12) s) 0 0 (omega arith) ∙ getD-drop (to - 12) s 0 0 ∙ ap (λ (n : ℕ). getD s n 0) e
 
-  between-back : {last : ℕ} → to ≤ last → between s (to - 12) last ≡ recordBefore s to ∷ between s to last
-  between-back {last} l =
+  recordsBehind-back : {last : ℕ} → to ≤ last → recordsBehind s (to - 12) last ≡ recordBefore s to ∷ recordsBehind s to last
+  recordsBehind-back {last} l =
       let i : (last - (to - 12)) / 12 ≡ suc ((last - to) / 12) = omega arith in
       let t : to - (to - 12) ≡ 12 = omega arith in
       let d : to - 12 + 12 ≡ to = omega arith in
@@ -97,12 +97,12 @@ trailing-suc s to j starts e = go (leb to 0) refl
 -- ---- a run of atoms
 
 -- `following`
-module _ (next run : ℕ) where
-  pub none-passed : run ≡ 0 → next ≡ cond (eqb run 0) next 5
-  none-passed h = rw (eq-eqb run 0 h)
+module _ (next trailing : ℕ) where
+  pub none-passed : trailing ≡ 0 → next ≡ cond (eqb trailing 0) next 5
+  none-passed h = rw (eq-eqb trailing 0 h)
 
-  pub some-passed : (run ≡ 0 → ⊥) → 5 ≡ cond (eqb run 0) next 5
-  some-passed h = rw (ne-eqb run 0 h)
+  pub some-passed : (trailing ≡ 0 → ⊥) → 5 ≡ cond (eqb trailing 0) next 5
+  some-passed h = rw (ne-eqb trailing 0 h)
 
 -- those from word `at` up to `to` are good atoms
 pub record Led (s : List ℕ) (to at : ℕ) : Type 0 where
@@ -140,8 +140,8 @@ pub record Behind (s : List ℕ) (last at next n : ℕ) : Type 0 where
   pub ends : last % 12 ≡ 0
   pub most : next ≤ 5
   pub few : n * 12 + at ≤ last
-  pub order : (q : ℕ) → inOrder q (between s at last) ≡ leb next (q + 1)
-  pub atoms : atomRecords (between s at last) ≡ n
+  pub order : (q : ℕ) → inOrder q (recordsBehind s at last) ≡ leb next (q + 1)
+  pub atoms : atomRecords (recordsBehind s at last) ≡ n
 
 pub behind-none : (s : List ℕ) (last : ℕ) → last ≤ length s → last % 12 ≡ 0 → Behind s last last 0 0
 unfolding inOrder atomRecords
@@ -164,15 +164,15 @@ order-bad [] rs h q = h q
 order-bad (r ∷ before) rs h q = rw (order-bad before rs h (kind r), and-false, and-false)
 
 -- no record may stand before those from `at` on
-bad : (s : List ℕ) (last at : ℕ) → at ≤ last → at % 12 ≡ 0 → last % 12 ≡ 0 → ((q : ℕ) → inOrder q (between s at last) ≡ false) → Refused BrokenLayout ≡ counted (chunks (last / 12) s)
+bad : (s : List ℕ) (last at : ℕ) → at ≤ last → at % 12 ≡ 0 → last % 12 ≡ 0 → ((q : ℕ) → inOrder q (recordsBehind s at last) ≡ false) → Refused BrokenLayout ≡ counted (chunks (last / 12) s)
 unfolding counted
 bad s last at l a b h =
     let i : last / 12 ≡ at / 12 + (last - at) / 12 = omega arith in
     let d : at / 12 * 12 ≡ at = omega arith in
-    rw (i, chunks-add (at / 12) ((last - at) / 12) s, d, order-bad (chunks (at / 12) s) (between s at last) h 0)
+    rw (i, chunks-add (at / 12) ((last - at) / 12) s, d, order-bad (chunks (at / 12) s) (recordsBehind s at last) h 0)
 
 module _ {s : List ℕ} {last at next n : ℕ} (p : Behind s last at next n) where
-  all-behind : at ≤ 0 → between s at last ≡ chunks (last / 12) s
+  all-behind : at ≤ 0 → recordsBehind s at last ≡ chunks (last / 12) s
   all-behind h =
       let z : at ≡ 0 = omega arith in
       let i : last - 0 ≡ last = omega arith in
@@ -191,15 +191,15 @@ module _ {s : List ℕ} {last at next n : ℕ} (p : Behind s last at next n) whe
     abbrev r : Words
     r = recordBefore s at
 
-    order-back : (q : ℕ) → inOrder q (between s (at - 12) last) ≡ ((leb 1 (kind r) && leb (kind r) 5 && leb (kind r) (q + 1)) && (goodRecord (5 - kind r) r && leb next (kind r + 1)))
+    order-back : (q : ℕ) → inOrder q (recordsBehind s (at - 12) last) ≡ ((leb 1 (kind r) && leb (kind r) 5 && leb (kind r) (q + 1)) && (goodRecord (5 - kind r) r && leb next (kind r + 1)))
     unfolding inOrder
-    order-back q = rw (between-back s at l (p .starts) (p .low), p .order (kind r))
+    order-back q = rw (recordsBehind-back s at l (p .starts) (p .low), p .order (kind r))
 
-    atoms-back : atomRecords (between s (at - 12) last) ≡ cond (eqb (kind r) 5) 1 0 + n
+    atoms-back : atomRecords (recordsBehind s (at - 12) last) ≡ cond (eqb (kind r) 5) 1 0 + n
     unfolding atomRecords
-    atoms-back = rw (between-back s at l (p .starts) (p .low), p .atoms)
+    atoms-back = rw (recordsBehind-back s at l (p .starts) (p .low), p .atoms)
 
-    bad-back : ((q : ℕ) → inOrder q (between s (at - 12) last) ≡ false) → Refused BrokenLayout ≡ counted (chunks (last / 12) s)
+    bad-back : ((q : ℕ) → inOrder q (recordsBehind s (at - 12) last) ≡ false) → Refused BrokenLayout ≡ counted (chunks (last / 12) s)
     bad-back h =
         let a = p .starts in
         let k = p .low in
@@ -247,15 +247,15 @@ module _ {s : List ℕ} {last at next n : ℕ} (p : Behind s last at next n) whe
         }
 
 -- the run of atoms before `at`, and what it leaves: past it stands no good atom
-record Run (s : List ℕ) (last at next n j : ℕ) : Type 0 where
+record Trailing (s : List ℕ) (last at next n j : ℕ) : Type 0 where
   behind : Behind s last (at - 12 * j) (cond (eqb j 0) next 5) (n + j)
   past : trailingAtoms ((at - 12 * j) / 12) s ≡ 0
 
-run : (j : ℕ) {s : List ℕ} {last at next n : ℕ} → Behind s last at next n → trailingAtoms (at / 12) s ≡ j → Run s last at next n j
-run zero {s} {last} {at} {next} {n} p e = let i : at - 12 * 0 ≡ at = omega arith in record { behind = rw (i, add-zero n) p; past = rw i e }
-run (suc j) {s} {last} {at} {next} {n} p e =
+trailing : (j : ℕ) {s : List ℕ} {last at next n : ℕ} → Behind s last at next n → trailingAtoms (at / 12) s ≡ j → Trailing s last at next n j
+trailing zero {s} {last} {at} {next} {n} p e = let i : at - 12 * 0 ≡ at = omega arith in record { behind = rw (i, add-zero n) p; past = rw i e }
+trailing (suc j) {s} {last} {at} {next} {n} p e =
     let t = trailing-suc s at j (p .starts) e in
-    let more = run j (behind-atom p (t .0) (t .1)) (t .2) in
+    let more = trailing j (behind-atom p (t .0) (t .1)) (t .2) in
     let i : at - 12 - 12 * j ≡ at - 12 * suc j = omega arith in
     let m : n + 1 + j ≡ n + suc j = omega arith in
     record { behind = rw (← i, ← m, ne-eqb (suc j) 0 (λ y. omega arith)) (rw (same (eqb j 0)) at (more .behind)); past = rw (← i) (more .past) }
@@ -273,7 +273,7 @@ module _ {s : List ℕ} {last at next n : ℕ} (p : Behind s last at next n) (l 
   behind-run =
       let i : at - 12 * j ≡ from = omega arith in
       let m : (at - from) / 12 ≡ j = omega arith in
-      rw (m, ← i, zero-run) (run j p refl .behind)
+      rw (m, ← i, zero-run) (trailing j p refl .behind)
     where
       zero-run : eqb (at - (at - 12 * j)) 0 ≡ eqb j 0
       zero-run = go (eqb j 0) refl
@@ -308,7 +308,7 @@ module _ {s : List ℕ} {last at next n : ℕ} (p : Behind s last at next n) (l 
         let k = kind-read in
         let i : at - 12 * j ≡ from = omega arith in
         let z : 5 - kind above ≡ 0 = omega arith in
-        record-bad behind-run more (rw z (go (goodRecord 0 above) (sym (trailing-back s from more (behind-run .starts)) ∙ rw i at (run j p refl .past))))
+        record-bad behind-run more (rw z (go (goodRecord 0 above) (sym (trailing-back s from more (behind-run .starts)) ∙ rw i at (trailing j p refl .past))))
       where
         go : (b : Bool) → cond b (suc (trailingAtoms ((from - 12) / 12) s)) 0 ≡ 0 → b ≡ false
         go true h = absurd (omega arith)

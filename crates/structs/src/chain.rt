@@ -23,7 +23,8 @@ pub fn remove_residue_by_id(
     flag: u64,
     code: &[u8],
 ) -> Edited
-    ensures { λ r. ⌜ (editedNumbers r, now (store .exit)) ≡ storeStep (now (store .entry)) (RemoveResidueById model chain serial (optionalOf flag (now (code .entry)))) ⌝ }
+    ensures { λ r. ⌜ (editedNumbers r, now (store .exit))
+        ≡ storeStep (now (store .entry)) (RemoveResidueById model chain serial (optionalOf flag (now (code .entry)))) ⌝ }
 {
     let checked = store::check(store);
     match checked {

@@ -50,7 +50,8 @@ pub fn join(
     second_residue: u64,
     second_conformer: u64,
 ) -> Edited
-    ensures { λ r. ⌜ (editedNumbers r, now (store .exit)) ≡ storeStep (now (store .entry)) (JoinConformers model chain residue conformer «second_model» «second_chain» «second_residue» «second_conformer») ⌝ }
+    ensures { λ r. ⌜ (editedNumbers r, now (store .exit))
+        ≡ storeStep (now (store .entry)) (JoinConformers model chain residue conformer «second_model» «second_chain» «second_residue» «second_conformer») ⌝ }
 {
     let first = [model, chain, residue, conformer];
     let second = [second_model, second_chain, second_residue, second_conformer];

@@ -30,7 +30,8 @@ pub fn remove_conformer_by_id(
     flag: u64,
     location: &[u8],
 ) -> Edited
-    ensures { λ r. ⌜ (editedNumbers r, now (store .exit)) ≡ storeStep (now (store .entry)) (RemoveConformerById model chain residue (now (name .entry)) (optionalOf flag (now (location .entry)))) ⌝ }
+    ensures { λ r. ⌜ (editedNumbers r, now (store .exit))
+        ≡ storeStep (now (store .entry)) (RemoveConformerById model chain residue (now (name .entry)) (optionalOf flag (now (location .entry)))) ⌝ }
 {
     let checked = store::check(store);
     match checked {
@@ -50,7 +51,8 @@ pub fn join(
     second_chain: u64,
     second_residue: u64,
 ) -> Edited
-    ensures { λ r. ⌜ (editedNumbers r, now (store .exit)) ≡ storeStep (now (store .entry)) (JoinResidues model chain residue «second_model» «second_chain» «second_residue») ⌝ }
+    ensures { λ r. ⌜ (editedNumbers r, now (store .exit))
+        ≡ storeStep (now (store .entry)) (JoinResidues model chain residue «second_model» «second_chain» «second_residue») ⌝ }
 {
     let first = [model, chain, residue];
     let second = [second_model, second_chain, second_residue];

@@ -2,13 +2,14 @@
 use Prim.Native.Nat.{ℕ, _+_, _*_, _≤_}
 use mathlib.Core.List.{List}
 use mathlib.Core.Option.{Option, none, some}
-use lib.ListN.{length, take, drop, getD}
+use lib.ListN.{length, getD}
 use Rattle.machine.specs.Record.{Model, Chain, Residue, Conformer, Atom, fieldsOf}
 use Rattle.machine.specs.Query.{Place, window, termValue}
 use Rattle.machine.specs.declared.Tri.{Tri}
 use Rattle.machine.specs.declared.Tri.the-variants.{False, True, Undecided}
 use Rattle.machine.specs.declared.Term.{Term}
 use Rattle.machine.specs.declared.RecordNumbers.{RecordNumbers}
+use Rattle.seek.specs.Seek.{recordAt}
 
 abbrev pub atModel : Option Model → Place
 atModel o = record { model = o; chain = none; residue = none; conformer = none; atom = none }
@@ -25,24 +26,20 @@ atConformer o = record { model = none; chain = none; residue = none; conformer =
 abbrev pub atAtom : Option Atom → Place
 atAtom o = record { model = none; chain = none; residue = none; conformer = none; atom = o }
 
--- the twelve words of record n
-unfoldable pub recordAt : List ℕ → ℕ → List ℕ
-recordAt w n = take 12 (drop (n * 12) w)
-
 -- all five levels known
 unfoldable pub placeAt : List ℕ → RecordNumbers → Place
 placeAt w at =
     record {
-      model = some (fieldsOf 4 (recordAt w (at .model)));
-      chain = some (fieldsOf 3 (recordAt w (at .chain)));
-      residue = some (fieldsOf 2 (recordAt w (at .residue)));
-      conformer = some (fieldsOf 1 (recordAt w (at .conformer)));
-      atom = some (fieldsOf 0 (recordAt w (at .atom)));
+      model = some (fieldsOf 4 (recordAt (at .model) w));
+      chain = some (fieldsOf 3 (recordAt (at .chain) w));
+      residue = some (fieldsOf 2 (recordAt (at .residue) w));
+      conformer = some (fieldsOf 1 (recordAt (at .conformer) w));
+      atom = some (fieldsOf 0 (recordAt (at .atom) w));
     }
 
 -- the terms' values there with the kinds from low to high alone known, by lists of residue names and of atom names
-abbrev pub valueAt : List ℕ → RecordNumbers → ℕ → ℕ → List ℕ → List ℕ → Term → Tri
-valueAt w at low high residues atoms = termValue (record { residues = residues; atoms = atoms }) (window low high (placeAt w at))
+abbrev pub termValueAt : List ℕ → RecordNumbers → ℕ → ℕ → List ℕ → List ℕ → Term → Tri
+termValueAt w at low high residues atoms = termValue (record { residues = residues; atoms = atoms }) (window low high (placeAt w at))
 
 -- what two levels say of a term: false if either does, else what one of them decides
 abbrev pub narrow : Tri → Tri → Tri

@@ -16,7 +16,8 @@ ghost use Rattle.machine.specs.Kleene as Kleene;
 ghost use Rattle.machine.specs.Record.{Atom, fieldsOf, readOut};
 ghost use Rattle.machine.specs.Query as Query;
 ghost use Rattle.machine.specs.declared.Tri.the-variants.{False, Undecided};
-ghost use Rattle.terms.specs.Levels.{atModel, atChain, atResidue, atConformer, atAtom, recordAt, valueAt, narrow, Inside};
+ghost use Rattle.seek.specs.Seek.{recordAt};
+ghost use Rattle.terms.specs.Levels.{atModel, atChain, atResidue, atConformer, atAtom, termValueAt, narrow, Inside};
 
 // ---- Kleene's tables
 
@@ -150,7 +151,9 @@ fn outside(residues: &[u64], name: u64) -> Tri
 }
 
 pub fn optional_matches_conformer(t: Term, name: u64, location: u64, residues: &[u64]) -> Tri
-    ensures { λ r. ⌜ ((others : List ℕ) → r ≡ Query.termValue (record { residues = now (residues .entry); atoms = others }) (atConformer (some (record { name = name; location = location }))) t) ⌝ }
+    ensures { λ r. ⌜ ((others : List ℕ)
+        → r ≡ Query.termValue (record { residues = now (residues .entry); atoms = others })
+        (atConformer (some (record { name = name; location = location }))) t) ⌝ }
 {
     match t {
         Term::ConformerName(n) => decided(name == n),
@@ -175,7 +178,8 @@ fn element_is(element: u64, n: u64) -> Tri
 
 // The atom is given as it is read out of its record.
 pub fn optional_matches_atom(t: Term, atom: AtomRec, atoms: &[u64]) -> Tri
-    ensures { λ r. ⌜ ((a : Atom) → atom ≡ readOut a → (others : List ℕ) → r ≡ Query.termValue (record { residues = others; atoms = now (atoms .entry) }) (atAtom (some a)) t) ⌝ }
+    ensures { λ r. ⌜ ((a : Atom) → atom ≡ readOut a → (others : List ℕ)
+        → r ≡ Query.termValue (record { residues = others; atoms = now (atoms .entry) }) (atAtom (some a)) t) ⌝ }
 {
     match t {
         Term::AtomSerialNumber(n) => decided(atom.serial == n),
@@ -198,7 +202,7 @@ pub fn optional_matches_atom(t: Term, atom: AtomRec, atoms: &[u64]) -> Tri
 // One of the twelve words of a record.
 fn word(words: &[u64], number: u64, k: usize) -> u64
     requires { ⌜ (number * 12 + 12 ≤ length (now words)) × (k < 12) ⌝ }
-    ensures { λ r. ⌜ r ≡ getD (recordAt (now (words .entry)) number) k 0 ⌝ }
+    ensures { λ r. ⌜ r ≡ getD (recordAt number (now (words .entry))) k 0 ⌝ }
 {
     words[number as usize * Record::WIDTH + k]
 }
@@ -206,7 +210,8 @@ fn word(words: &[u64], number: u64, k: usize) -> u64
 // The term's value where the record of one level alone is known, or where nothing is.
 fn model_value(t: Term, words: &[u64], number: u64, known: bool) -> Tri
     requires { ⌜ number * 12 + 12 ≤ length (now words) ⌝ }
-    ensures { λ r. ⌜ ((names : Query.Names) → r ≡ Query.termValue names (atModel (Query.onlyIf known (some (fieldsOf 4 (recordAt (now (words .entry)) number))))) t) ⌝ }
+    ensures { λ r. ⌜ ((names : Query.Names)
+        → r ≡ Query.termValue names (atModel (Query.onlyIf known (some (fieldsOf 4 (recordAt number (now (words .entry))))))) t) ⌝ }
 {
     if known {
         optional_matches_model(t, word(words, number, Record::SERIAL))
@@ -217,7 +222,8 @@ fn model_value(t: Term, words: &[u64], number: u64, known: bool) -> Tri
 
 fn chain_value(t: Term, words: &[u64], number: u64, known: bool) -> Tri
     requires { ⌜ number * 12 + 12 ≤ length (now words) ⌝ }
-    ensures { λ r. ⌜ ((names : Query.Names) → r ≡ Query.termValue names (atChain (Query.onlyIf known (some (fieldsOf 3 (recordAt (now (words .entry)) number))))) t) ⌝ }
+    ensures { λ r. ⌜ ((names : Query.Names)
+        → r ≡ Query.termValue names (atChain (Query.onlyIf known (some (fieldsOf 3 (recordAt number (now (words .entry))))))) t) ⌝ }
 {
     if known {
         optional_matches_chain(t, word(words, number, Record::CHAIN_ID))
@@ -228,7 +234,8 @@ fn chain_value(t: Term, words: &[u64], number: u64, known: bool) -> Tri
 
 fn residue_value(t: Term, words: &[u64], number: u64, known: bool) -> Tri
     requires { ⌜ number * 12 + 12 ≤ length (now words) ⌝ }
-    ensures { λ r. ⌜ ((names : Query.Names) → r ≡ Query.termValue names (atResidue (Query.onlyIf known (some (fieldsOf 2 (recordAt (now (words .entry)) number))))) t) ⌝ }
+    ensures { λ r. ⌜ ((names : Query.Names)
+        → r ≡ Query.termValue names (atResidue (Query.onlyIf known (some (fieldsOf 2 (recordAt number (now (words .entry))))))) t) ⌝ }
 {
     if known {
         let serial = word(words, number, Record::SERIAL);
@@ -241,7 +248,9 @@ fn residue_value(t: Term, words: &[u64], number: u64, known: bool) -> Tri
 
 fn conformer_value(t: Term, words: &[u64], number: u64, known: bool, residues: &[u64]) -> Tri
     requires { ⌜ number * 12 + 12 ≤ length (now words) ⌝ }
-    ensures { λ r. ⌜ ((others : List ℕ) → r ≡ Query.termValue (record { residues = now (residues .entry); atoms = others }) (atConformer (Query.onlyIf known (some (fieldsOf 1 (recordAt (now (words .entry)) number))))) t) ⌝ }
+    ensures { λ r. ⌜ ((others : List ℕ)
+        → r ≡ Query.termValue (record { residues = now (residues .entry); atoms = others })
+        (atConformer (Query.onlyIf known (some (fieldsOf 1 (recordAt number (now (words .entry))))))) t) ⌝ }
 {
     if known {
         let name = word(words, number, Record::CONFORMER_NAME);
@@ -254,7 +263,9 @@ fn conformer_value(t: Term, words: &[u64], number: u64, known: bool, residues: &
 
 fn atom_value(t: Term, words: &[u64], number: u64, known: bool, atoms: &[u64]) -> Tri
     requires { ⌜ number * 12 + 12 ≤ length (now words) ⌝ }
-    ensures { λ r. ⌜ ((others : List ℕ) → r ≡ Query.termValue (record { residues = others; atoms = now (atoms .entry) }) (atAtom (Query.onlyIf known (some (fieldsOf 0 (recordAt (now (words .entry)) number))))) t) ⌝ }
+    ensures { λ r. ⌜ ((others : List ℕ)
+        → r ≡ Query.termValue (record { residues = others; atoms = now (atoms .entry) })
+        (atAtom (Query.onlyIf known (some (fieldsOf 0 (recordAt number (now (words .entry))))))) t) ⌝ }
 {
     if known {
         optional_matches_atom(t, records::read_atom(words, number as usize), atoms)
@@ -290,7 +301,7 @@ pub fn term_value(
     atoms: &[u64],
 ) -> Tri
     requires { ⌜ Inside (now words) at ⌝ }
-    ensures { λ r. ⌜ r ≡ valueAt (now (words .entry)) at low high (now (residues .entry)) (now (atoms .entry)) t ⌝ }
+    ensures { λ r. ⌜ r ≡ termValueAt (now (words .entry)) at low high (now (residues .entry)) (now (atoms .entry)) t ⌝ }
 {
     match t {
         Term::ModelSerialNumber(_) | Term::ModelSerialNumberRange(_, _) => {

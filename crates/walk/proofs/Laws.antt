@@ -22,8 +22,8 @@ use Rattle.laws.specs.Lists.{All}
 use Rattle.laws.specs.Numbers.{five-numbers, atoms-stored}
 use Rattle.moves.specs.Over.{over}
 use Rattle.moves.proofs.Laws.{over-length, over-none, over-over}
-use Rattle.seek.specs.Seek.{between, held}
-use Rattle.seek.proofs.Below.{record-kind, between-cons}
+use Rattle.seek.specs.Seek.{recordsIn, held}
+use Rattle.seek.proofs.Below.{record-kind, recordsIn-cons}
 use Rattle.seek.proofs.Laws.{whole-within}
 use Rattle.store.specs.Store.{checkedBy}
 use Rattle.store.proofs.Laws.{Held, good-store, refused-find}
@@ -50,7 +50,7 @@ depth-high k h false = omega arith
 pub record Walking (w t residues atoms : List ℕ) (low end : ℕ) (hits : List (List ℕ)) (n d s : ℕ) (at : RecordNumbers) (found : ℕ) : Type 0 where
   pub order : n ≤ end
   pub room : end * 12 ≤ length w
-  pub kinds : All Levelled (between n end w)
+  pub kinds : All Levelled (recordsIn n end w)
   pub depth : d ≤ 5
   pub sure : Sure (valueBy w t low residues atoms at) s 5
   pub numbers : UpTo n at
@@ -70,8 +70,8 @@ module _ (w t residues atoms : List ℕ) (low end : ℕ) (hits : List (List ℕ)
   walk-end h = omega (arith, i .all, ap length (found-end w t residues atoms low end n d at h))
 
   module _ (more : n < end) where
-    split : All Levelled (take 12 (drop (n * 12) w) ∷ between (n + 1) end w)
-    split = rw (between-cons w end n more) at (i .kinds)
+    split : All Levelled (take 12 (drop (n * 12) w) ∷ recordsIn (n + 1) end w)
+    split = rw (recordsIn-cons w end n more) at (i .kinds)
 
     pub least : 1 ≤ k
     least = omega (arith, split .0 .low, record-kind w n)

@@ -16,9 +16,9 @@ use Rattle.machine.specs.Find.{Site, below}
 use Rattle.machine.specs.declared.RecordNumbers.{RecordNumbers}
 use Rattle.machine.specs.declared.Tri.{Tri}
 use Rattle.laws.specs.Scan.{above}
-use Rattle.seek.specs.Seek.{between}
-use Rattle.seek.proofs.Below.{record-kind, between-cons, between-nil}
-use Rattle.terms.specs.Levels.{recordAt, placeAt, valueAt}
+use Rattle.seek.specs.Seek.{recordAt, recordsIn}
+use Rattle.seek.proofs.Below.{record-kind, recordsIn-cons, recordsIn-nil}
+use Rattle.terms.specs.Levels.{placeAt, termValueAt}
 use Rattle.descent.specs.Descent.{five, siteAt, depthAfter}
 use Rattle.descent.proofs.Sites.{window-from, enteredAt, site-above, site-left, site-below}
 use Rattle.walk.specs.Sieve.{depth, sieve}
@@ -56,19 +56,18 @@ module _ (w t residues atoms : List ℕ) (low end n d : ℕ) (at : RecordNumbers
   k = getD w (n * 12) 0
 
   abbrev rest : List Words
-  rest = between (suc n) end w
+  rest = recordsIn (suc n) end w
 
   pub found-end : end ≤ n → foundIn w n end t low d at residues atoms ≡ []
   unfolding foundIn sieve
-  found-end h = rw (between-nil w end n h)
+  found-end h = rw (recordsIn-nil w end n h)
 
   module _ (more : n < end) (high : d ≤ 5) where
-    first : foundIn w n end t low d at residues atoms ≡ numbers (sieve hit n (siteAt w d at) (recordAt w n ∷ rest))
-    unfolding foundIn recordAt
-    first = rw (between-cons w end n more, add-one)
+    first : foundIn w n end t low d at residues atoms ≡ numbers (sieve hit n (siteAt w d at) (recordAt n w ∷ rest))
+    unfolding foundIn
+    first = rw (recordsIn-cons w end n more, add-one)
 
-    is-kind : kind (recordAt w n) ≡ k
-    unfolding recordAt
+    is-kind : kind (recordAt n w) ≡ k
     is-kind = record-kind w n
 
     pub found-deep : d + 1 < k → foundIn w n end t low d at residues atoms ≡ foundIn w (n + 1) end t low d at residues atoms
@@ -84,12 +83,12 @@ module _ (w t residues atoms : List ℕ) (low end n d : ℕ) (at : RecordNumbers
       unfolding to
       upper = site-above w k d at (omega arith) ∙ site-left w k n at least most
 
-      here : below (5 - k) n (fieldsOf (5 - k) (recordAt w n)) (above k (siteAt w d at)) ≡ siteAt w k to
+      here : below (5 - k) n (fieldsOf (5 - k) (recordAt n w)) (above k (siteAt w d at)) ≡ siteAt w k to
       unfolding to
-      here = ap (below (5 - k) n (fieldsOf (5 - k) (recordAt w n))) (site-above w k d at (omega arith)) ∙ site-below w k n at least most
+      here = ap (below (5 - k) n (fieldsOf (5 - k) (recordAt n w))) (site-above w k d at (omega arith)) ∙ site-below w k n at least most
 
       value : Tri
-      value = treeValue (valueAt w to low k residues atoms) t
+      value = treeValue (termValueAt w to low k residues atoms) t
 
       is-hit : hit (siteAt w k to) ≡ isHit value
       unfolding mayHit siteAt value
@@ -98,7 +97,7 @@ module _ (w t residues atoms : List ℕ) (low end n d : ℕ) (at : RecordNumbers
       abbrev looked : Bool → Site → Site → List Site
       looked b y u = cond b (keep (eqb k 5) y (sieve hit (suc n) y rest)) (sieve hit (suc n) u rest)
 
-      looks : sieve hit n (siteAt w d at) (recordAt w n ∷ rest) ≡ looked (isHit value) (siteAt w k to) (siteAt w (k - 1) to)
+      looks : sieve hit n (siteAt w d at) (recordAt n w ∷ rest) ≡ looked (isHit value) (siteAt w k to) (siteAt w (k - 1) to)
       unfolding sieve
       looks =
           rw (site-depth w d at high, is-kind, le-ltb (suc d) k (omega arith))
@@ -118,7 +117,7 @@ module _ (w t residues atoms : List ℕ) (low end n d : ℕ) (at : RecordNumbers
           ∙ kept (numbers (sieve hit (suc n) (siteAt w k to) rest)))
       told false = rw (ne-eqb (k - 1) 5 (λ z. omega arith), add-one)
 
-      pub found-next : (to′ : RecordNumbers) (d′ : ℕ) → to′ ≡ enteredAt k n at → d′ ≡ depthAfter k (treeValue (valueAt w to′ low k residues atoms) t)
+      pub found-next : (to′ : RecordNumbers) (d′ : ℕ) → to′ ≡ enteredAt k n at → d′ ≡ depthAfter k (treeValue (termValueAt w to′ low k residues atoms) t)
           → foundIn w n end t low d at residues atoms ≡ keep (eqb d′ 5) (five to′) (foundIn w (n + 1) end t low d′ to′ residues atoms)
       unfolding to value
       found-next to′ d′ e f = rw (f, e) (first ∙ ap numbers looks ∙ told (isHit value))

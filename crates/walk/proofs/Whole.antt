@@ -16,7 +16,7 @@ use Rattle.laws.specs.Lists.{All}
 use Rattle.laws.specs.Layout.{read-parts, records-read}
 use Rattle.laws.specs.Ordered.{head-parts}
 use Rattle.laws.specs.Windows.{pruned}
-use Rattle.seek.specs.Seek.{Good, held, between}
+use Rattle.seek.specs.Seek.{Good, held, recordsIn}
 use Rattle.seek.proofs.Laws.{whole-records}
 use Rattle.descent.specs.Descent.{siteAt, start}
 use Rattle.descent.proofs.Sites.{window-from}
@@ -51,7 +51,7 @@ module _ (w : List ℕ) (good : Good w) where
   order : inOrder 0 (records (held w)) ≡ true
   order = rw (records-read w (held w) good) (read-parts w (held w) good .order)
 
-  pub whole-levels : All Levelled (between 0 (length (records (held w))) w)
+  pub whole-levels : All Levelled (recordsIn 0 (length (records (held w))) w)
   whole-levels = rw (whole-records w good) (order-levels 0 (records (held w)) order)
 
   pub found-whole : (t : List ℕ) (names : Names) → foundIn w 0 (length (records (held w))) t 1 0 start (names .residues) (names .atoms) ≡ hitsIn names t (held w)

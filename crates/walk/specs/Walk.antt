@@ -12,7 +12,7 @@ use Rattle.machine.specs.Find.{Site, hitWords}
 use Rattle.machine.specs.declared.RecordNumbers.{RecordNumbers}
 use Rattle.laws.specs.Lists.{All}
 use Rattle.moves.specs.Over.{over}
-use Rattle.seek.specs.Seek.{Good, Within, between, held}
+use Rattle.seek.specs.Seek.{Good, Within, recordsIn, held}
 use Rattle.search.specs.Nodes.{checked}
 use Rattle.search.specs.declared.CheckedTree as CheckedTree
 use Rattle.descent.specs.Descent.{siteAt, UpTo}
@@ -27,7 +27,7 @@ mayHit low names t s = isHit (treeValue (termValue names (window low 5 (s .place
 -- the hits among the records from number `from` up to `end`
 unfoldable pub foundIn : List ℕ → ℕ → ℕ → List ℕ → ℕ → ℕ → RecordNumbers → List ℕ → List ℕ → List (List ℕ)
 foundIn w from end t low d at residues atoms =
-    map (λ s. s .numbers) (sieve (mayHit low (record { residues = residues; atoms = atoms }) t) from (siteAt w d at) (between from end w))
+    map (λ s. s .numbers) (sieve (mayHit low (record { residues = residues; atoms = atoms }) t) from (siteAt w d at) (recordsIn from end w))
 
 -- how many they are, and the output's words with them written from the first on
 abbrev pub wrote : List (List ℕ) → List ℕ → ℕ × List ℕ
@@ -41,7 +41,7 @@ pub record Levelled (r : Words) : Type 0 where
 
 pub record Ready (w : List ℕ) (from end : ℕ) (t : List ℕ) (d : ℕ) (at : RecordNumbers) : Type 0 where
   pub within : Within from end w
-  pub kinds : All Levelled (between from end w)
+  pub kinds : All Levelled (recordsIn from end w)
   pub tree : checked (readTree t) ≡ CheckedTree.the-variants.Good
   pub depth : d ≤ 5
   pub numbers : UpTo from at

@@ -87,8 +87,10 @@ pub fn find_in(
     atoms: &[u64],
     out: &mut [u64],
 ) -> u64
-    requires { ⌜ Ready (now store) from end (now tree) depth first × (5 * length (foundIn (now store) from end (now tree) low depth first (now residues) (now atoms)) ≤ length (now out)) ⌝ }
-    ensures { λ r. ⌜ (r, now (out .exit)) ≡ wrote (foundIn (now (store .entry)) from end (now (tree .entry)) low depth first (now (residues .entry)) (now (atoms .entry))) (now (out .entry)) ⌝ }
+    requires { ⌜ Ready (now store) from end (now tree) depth first
+        × (5 * length (foundIn (now store) from end (now tree) low depth first (now residues) (now atoms)) ≤ length (now out)) ⌝ }
+    ensures { λ r. ⌜ (r, now (out .exit))
+        ≡ wrote (foundIn (now (store .entry)) from end (now (tree .entry)) low depth first (now (residues .entry)) (now (atoms .entry))) (now (out .entry)) ⌝ }
 {
     let lowest = search::lowest_kind(tree);
     let mut at = descent::numbers_of(first);
@@ -129,7 +131,8 @@ fn enough(
     atoms: &[u64],
 ) -> bool
     requires { ⌜ Asked (now store) (now tree) total ⌝ }
-    ensures { λ r. ⌜ r ≡ leb (length (hitsIn (record { residues = now (residues .entry); atoms = now (atoms .entry) }) (now (tree .entry)) (held (now (store .entry))))) room ⌝ }
+    ensures { λ r. ⌜ r ≡ leb (length
+        (hitsIn (record { residues = now (residues .entry); atoms = now (atoms .entry) }) (now (tree .entry)) (held (now (store .entry))))) room ⌝ }
 {
     if total <= room {
         return true;

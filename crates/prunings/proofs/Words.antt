@@ -15,14 +15,18 @@ use Rattle.laws.specs.Counting.{those-append, those-All}
 use Rattle.laws.specs.Places.{atoms, replace-sum}
 use Rattle.laws.specs.Grouped.{concat, concat-length, chunks-concat, chunks-length, twelve-words}
 use Rattle.laws.specs.Layout.{laid-length, laid-end, layOut-read, records-read, read-length, read-fit, fit-words}
-use Rattle.moves.specs.Over.{over}
+use Rattle.moves.specs.Over.{over, Twelve}
 use Rattle.moves.proofs.Laws.{over-none, over-over, over-length, drop-over}
-use Rattle.moves.proofs.Records.{Twelve, twelve-drop, twelve-over, concat-append, write-laid}
-use Rattle.seek.specs.Seek.{held, Good, Within, recordAt, between}
-use Rattle.seek.proofs.Below.{chunks-snoc, between-nil}
+use Rattle.moves.proofs.Records.{twelve-drop, twelve-over, concat-append, write-laid}
+use Rattle.seek.specs.Seek.{held, Good, Within, recordAt, recordsIn}
+use Rattle.seek.proofs.Below.{chunks-snoc, recordsIn-nil}
 use Rattle.seek.proofs.Laws.{Stands, spot-length, stands-within, stands-records}
-use Rattle.prunings.specs.Prune.{Laid, instead, Compacted, kept}
-use Rattle.prunings.specs.Laws.{those-length, kept-atoms, kept-count}
+use Rattle.prunings.specs.Prune.{Laid, Compacted, kept}
+use Rattle.prunings.proofs.Branches.{those-length, kept-atoms, kept-count}
+
+-- others in the place of the records from `from` up to `end`
+abbrev pub instead : ℕ → ℕ → List Words → List Words → List Words
+instead from end new rs = take from rs ++ (new ++ drop end rs)
 
 -- ---- records laid out
 
@@ -72,21 +76,21 @@ drop-chunks (suc n) (suc c) w h =
     drop-chunks n c (drop 12 w) (omega arith) ∙ rw (drop-drop (n * 12) 12 w, e, f)
 
 module _ (w : List ℕ) (from end : ℕ) (h : Within from end w) where
-  pub between-twelve : Twelve (between from end w)
-  between-twelve = twelve-drop from (chunks end w) (twelve-chunks end w (h .room))
+  pub recordsIn-twelve : Twelve (recordsIn from end w)
+  recordsIn-twelve = twelve-drop from (chunks end w) (twelve-chunks end w (h .room))
 
-  pub between-length : from + length (between from end w) ≡ end
-  between-length = let o = h .order in omega (arith, length-drop from (chunks end w), chunks-length end w)
+  pub recordsIn-length : from + length (recordsIn from end w) ≡ end
+  recordsIn-length = let o = h .order in omega (arith, length-drop from (chunks end w), chunks-length end w)
 
-  between-snoc : between from (end + 1) w ≡ between from end w ++ (recordAt end w ∷ [])
-  between-snoc =
+  recordsIn-snoc : recordsIn from (end + 1) w ≡ recordsIn from end w ++ (recordAt end w ∷ [])
+  recordsIn-snoc =
       let o = h .order in
       rw (add-one, chunks-snoc) (drop-append-le from (chunks end w) (recordAt end w ∷ []) (omega (arith, chunks-length end w)))
 
   -- records written over those are what is read there
-  pub between-over : (rs : List Words) → Twelve rs → from + length rs ≡ end → between from end (over (from * 12) (concat rs) w) ≡ rs
+  pub recordsIn-over : (rs : List Words) → Twelve rs → from + length rs ≡ end → recordsIn from end (over (from * 12) (concat rs) w) ≡ rs
   unfolding over
-  between-over rs t e =
+  recordsIn-over rs t e =
       let r = h .room in
       let s = over (from * 12) (concat rs) w in
       let c : end - from ≡ length rs = omega arith in
@@ -117,15 +121,15 @@ rewritten w s rs x l t h e =
 module _ (p : Words → Bool) (from : ℕ) (w : List ℕ) where
   pub compact-start : Compacted p from from w from w
   compact-start =
-      let e = between-nil w from from (omega arith) in
+      let e = recordsIn-nil w from from (omega arith) in
       record { count = rw e (omega arith); is = rw e (sym (over-none (from * 12) w)) }
 
   module _ (at to : ℕ) (s : List ℕ) (h : Within from at w) (c : Compacted p from at w to s) where
-    written : length (concat (those p (between from at w))) ≡ 12 * length (those p (between from at w))
-    written = concat-length (those p (between from at w)) (those-All _ p (between from at w) (between-twelve w from at h))
+    written : length (concat (those p (recordsIn from at w))) ≡ 12 * length (those p (recordsIn from at w))
+    written = concat-length (those p (recordsIn from at w)) (those-All _ p (recordsIn from at w) (recordsIn-twelve w from at h))
 
     pub compact-low : to ≤ at
-    compact-low = let n = c .count in omega (arith, those-length p (between from at w), between-length w from at h)
+    compact-low = let n = c .count in omega (arith, those-length p (recordsIn from at w), recordsIn-length w from at h)
 
     -- the next record is still as it was
     pub compact-next : recordAt at s ≡ recordAt at w
@@ -134,19 +138,19 @@ module _ (p : Words → Bool) (from : ℕ) (w : List ℕ) where
         let r = h .room in
         let o = h .order in
         let l = compact-low in
-        ap (recordAt at) (c .is) ∙ ap (take 12) (drop-over (from * 12) (concat (those p (between from at w))) w (at * 12) (omega arith) (omega (arith, written)))
+        ap (recordAt at) (c .is) ∙ ap (take 12) (drop-over (from * 12) (concat (those p (recordsIn from at w))) w (at * 12) (omega arith) (omega (arith, written)))
 
     pub compact-skip : p (recordAt at s) ≡ false → Compacted p from (at + 1) w to s
     compact-skip e =
-        let q : those p (between from (at + 1) w) ≡ those p (between from at w) =
-        rw (between-snoc w from at h, those-append p, ← compact-next, e) (append-nil (those p (between from at w))) in
+        let q : those p (recordsIn from (at + 1) w) ≡ those p (recordsIn from at w) =
+        rw (recordsIn-snoc w from at h, those-append p, ← compact-next, e) (append-nil (those p (recordsIn from at w))) in
         record { count = rw q (c .count); is = rw q (c .is) }
 
     pub compact-keep : (s′ : List ℕ) → p (recordAt at s) ≡ true → s′ ≡ over (to * 12) (recordAt at s) s → Compacted p from (at + 1) w (to + 1) s′
     compact-keep s′ e f =
-        let b : List Words = those p (between from at w) in
-        let q : those p (between from (at + 1) w) ≡ b ++ (recordAt at w ∷ []) =
-        rw (between-snoc w from at h, those-append p, ← compact-next, e) in
+        let b : List Words = those p (recordsIn from at w) in
+        let q : those p (recordsIn from (at + 1) w) ≡ b ++ (recordAt at w ∷ []) =
+        rw (recordsIn-snoc w from at h, those-append p, ← compact-next, e) in
         let n = c .count in
         let r = h .room in
         let o = h .order in
@@ -159,24 +163,24 @@ module _ (p : Words → Bool) (from : ℕ) (w : List ℕ) where
 
     -- then `close_gap`, from `to` up to `at`, leaves them alone
     module _ (l : Laid w) (b : at ≤ length (recordsOf w)) where
-      room : from + length (those p (between from at w)) ≤ length (recordsOf w)
+      room : from + length (those p (recordsIn from at w)) ≤ length (recordsOf w)
       room = let n = c .count in let m = compact-low in omega arith
 
-      moved : Rewritten w (over from (those p (between from at w)) (recordsOf w)) s
-      moved = rewritten w s (those p (between from at w)) from l (those-All _ p (between from at w) (between-twelve w from at h)) room (c .is)
+      moved : Rewritten w (over from (those p (recordsIn from at w)) (recordsOf w)) s
+      moved = rewritten w s (those p (recordsIn from at w)) from l (those-All _ p (recordsIn from at w) (recordsIn-twelve w from at h)) room (c .is)
 
       pub compact-laid : Laid s
       compact-laid = moved .laid
 
       pub compact-high : at ≤ length (recordsOf s)
-      compact-high = rw (moved .records, over-length from (those p (between from at w)) (recordsOf w) room) b
+      compact-high = rw (moved .records, over-length from (those p (recordsIn from at w)) (recordsOf w) room) b
 
       pub compact-close : (v : List ℕ) → v ≡ laid (length s) (concat (take to (recordsOf s) ++ drop at (recordsOf s)))
-          → v ≡ laid (length w) (concat (instead from at (those p (between from at w)) (recordsOf w)))
+          → v ≡ laid (length w) (concat (instead from at (those p (recordsIn from at w)) (recordsOf w)))
       unfolding over
       compact-close v e =
           let rs = recordsOf w in
-          let new : List Words = those p (between from at w) in
+          let new : List Words = those p (recordsIn from at w) in
           let n = c .count in
           let m = compact-low in
           let k = room in
@@ -202,7 +206,7 @@ module _ (w : List ℕ) (g : Good w) (d j : ℕ) (pos : List ℕ) (ts : List (Br
       let c = ap length (good-records w g ∙ whole) in
       omega (arith, spot-length d (suc j) pos ts (s .branch) (s .spot))
 
-  pub below-records : between (start + 1) stop w ≡ bind (flat j) (s .branch .1)
+  pub below-records : recordsIn (start + 1) stop w ≡ bind (flat j) (s .branch .1)
   unfolding flat
   below-records = sym (drop-drop 1 start (chunks stop w)) ∙ ap (drop 1) (stands-records w g d (suc j) pos ts start stop whole s)
 
@@ -249,7 +253,7 @@ module _ (w : List ℕ) (g : Good w) (i start stop : ℕ) (s : Stands 0 4 (i ∷
   high : stop ≤ length (recordsOf w)
   high = below-high w g 0 3 (i ∷ []) (held w) start stop refl s
 
-  left : those (kept p) (between (start + 1) stop w) ≡ bind (flat 3) (keepAtoms 3 p (s .branch .1))
+  left : those (kept p) (recordsIn (start + 1) stop w) ≡ bind (flat 3) (keepAtoms 3 p (s .branch .1))
   left = rw (below-records w g 0 3 (i ∷ []) (held w) start stop refl s) (sym (kept-atoms 3 (omega arith) p (s .branch .1)))
 
   pub atoms-gap : Laid v × (to ≤ stop) × (stop ≤ length (recordsOf v))
@@ -270,5 +274,5 @@ module _ (w : List ℕ) (g : Good w) (i start stop : ℕ) (s : Stands 0 4 (i ∷
       let us = s .branch .1 in
       let n = c .count in
       let all : start + 1 + length (bind (flat 3) us) ≡ stop =
-      ap (λ (rs : List Words). start + 1 + length rs) (sym (below-records w g 0 3 (i ∷ []) (held w) start stop refl s)) ∙ between-length w (start + 1) stop within in
+      ap (λ (rs : List Words). start + 1 + length rs) (sym (below-records w g 0 3 (i ∷ []) (held w) start stop refl s)) ∙ recordsIn-length w (start + 1) stop within in
       omega (arith, below-stored i start stop (held w) s (keepAtoms 3 p us), kept-count 3 p us, ap length left)

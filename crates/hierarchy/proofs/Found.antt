@@ -22,7 +22,7 @@ use Rattle.laws.specs.Lists.{All, All-append, All-map, All-over}
 use Rattle.laws.specs.Counting.{those-All}
 use Rattle.laws.specs.Grouped.{concat, twelve-words}
 use Rattle.laws.specs.Layout.{layOut-read, read-length, read-fit, fit-words}
-use Rattle.demands.specs.Runs.{hits-five}
+use Rattle.demands.proofs.Runs.{hits-five}
 use Rattle.moves.proofs.Records.{record-at}
 use Rattle.hierarchy.specs.Hit.{recordOf, isKind, areKinds, numbersAt, namedBy, nthOf}
 use Rattle.hierarchy.specs.declared.Named.the-variants.{At}
