@@ -41,14 +41,14 @@ abbrev pub alone : ℕ → RecordNumbers
 alone n = record { model = n; chain = n; residue = n; conformer = n; atom = n }
 
 alone-place : (w : List ℕ) (n : ℕ) → window 5 5 (Levels.placeAt w (alone n)) ≡ enter zero (fieldsOf 0 (recordAt n w)) nowhere
-unfolding window enter Levels.placeAt Levels.recordAt
+unfolding window enter Levels.placeAt
 alone-place w n = refl
 
 module _ (w residues atoms tree : List ℕ) (n : ℕ) where
   pub stays-other : (getD w (n * 12) 0 ≡ 5 → ⊥) → true ≡ staying residues atoms tree (recordAt n w)
   stays-other e = rw (record-kind w n, ne-eqb (getD w (n * 12) 0) 5 e)
 
-  pub stays-atom : (v : Tri) (b : Bool) → getD w (n * 12) 0 ≡ 5 → v ≡ treeValue (Levels.valueAt w (alone n) 5 5 residues atoms) tree → b ≡ not (isTrue v)
+  pub stays-atom : (v : Tri) (b : Bool) → getD w (n * 12) 0 ≡ 5 → v ≡ treeValue (Levels.termValueAt w (alone n) 5 5 residues atoms) tree → b ≡ not (isTrue v)
       → b ≡ staying residues atoms tree (recordAt n w)
   unfolding spared
   stays-atom v b e f g = g ∙ rw (f, alone-place w n, record-kind w n, eq-eqb (getD w (n * 12) 0) 5 e)
