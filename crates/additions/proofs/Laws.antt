@@ -30,7 +30,7 @@ use Rattle.moves.proofs.Laws.{over-at}
 use Rattle.moves.proofs.Records.{twelve-take, twelve-drop, blank, blank-twelve, insert-laid, write-laid, drop-records}
 use Rattle.seek.specs.Seek.{held, Good, Within, recordsIn, isAtom, atomRecords, span, spanOf}
 use Rattle.seek.proofs.Below.{recordsIn-cons}
-use Rattle.seek.proofs.Laws.{records-count, atoms-stored, at-span, Stands, stands, missing, stands-within, stands-records}
+use Rattle.seek.proofs.Laws.{records-count, atomRecords-stored, at-span, Stands, stands, missing, stands-within, stands-records}
 use Rattle.seek.specs.declared.Span as Span
 use Rattle.places.specs.Place.{Known, Lands, column, Grown, Moves}
 use Rattle.places.specs.Pick.{keysOf, spotIn, foundOf}
@@ -78,8 +78,8 @@ module _ (w : List ℕ) (g : Good w) (m : Machine) (at : ℕ) (new : List Words)
   kept-atoms =
       omega (
         arith,
-        atoms-stored (held w),
-        atoms-stored m,
+        atomRecords-stored (held w),
+        atomRecords-stored m,
         ap atomRecords (s .was),
         sum-append isAtom (s .pre) (s .post),
         ap atomRecords (s .is),

@@ -19,7 +19,7 @@ use Rattle.seek.specs.Seek.{held, Good}
 use Rattle.store.specs.Store.{checkedBy}
 use Rattle.store.proofs.Laws.{refused-store}
 use Rattle.store.specs.declared.Checked as Checked
-use Rattle.copies.specs.Copy.{room, written, copyRun}
+use Rattle.copies.specs.Copy.{room, copiedInto, copyRun}
 
 -- ---- the words
 
@@ -66,30 +66,30 @@ module _ (from to : List ℕ) (g : Good from) (n : ℕ) (count : n ≡ length (r
       rw (records-read from (held from) g, concat-chunks (end from / 12) from, q)
 
   module _ (some : 1 ≤ length to) (most : length to ≤ 1200001) where
-    pub copy-full : (length to - 1) / 12 < n → (openedNumbers (Refused NoCapacity), to) ≡ written to (room (length to) (held from))
+    pub copy-full : (length to - 1) / 12 < n → (openedNumbers (Refused NoCapacity), to) ≡ copiedInto to (room (length to) (held from))
     copy-full h = rw (le-leb 1 (length to) some, le-leb (length to) 1200001 most, lt-leb (length (records (held from))) ((length to - 1) / 12) (omega arith))
 
     module _ (fits : n ≤ (length to - 1) / 12) where
       pub words-fit : length (take (n * 12 - 0) (drop 0 from)) < length to
       words-fit = rw (length-take (n * 12 - 0) from) (omega arith)
 
-      pub copy-done : (to′ : List ℕ) → to′ ≡ laid (length to) (take (n * 12 - 0) (drop 0 from)) → (openedNumbers Done, to′) ≡ written to (room (length to) (held from))
+      pub copy-done : (to′ : List ℕ) → to′ ≡ laid (length to) (take (n * 12 - 0) (drop 0 from)) → (openedNumbers Done, to′) ≡ copiedInto to (room (length to) (held from))
       copy-done to′ e =
           let z : n * 12 - 0 ≡ n * 12 = omega arith in
           rw (le-leb 1 (length to) some, le-leb (length to) 1200001 most, le-leb (length (records (held from))) ((length to - 1) / 12) (omega arith), copied-words (length to))
           (ap (λ (w : List ℕ). (openedNumbers Done, w)) (rw z at e))
 
 module _ (from to : List ℕ) where
-  pub copy-short : length to < 1 → (openedNumbers (Refused BadLength), to) ≡ written to (room (length to) (held from))
+  pub copy-short : length to < 1 → (openedNumbers (Refused BadLength), to) ≡ copiedInto to (room (length to) (held from))
   copy-short h = rw (lt-leb 1 (length to) h)
 
-  pub copy-long : 1200001 < length to → (openedNumbers (Refused BadLength), to) ≡ written to (room (length to) (held from))
+  pub copy-long : 1200001 < length to → (openedNumbers (Refused BadLength), to) ≡ copiedInto to (room (length to) (held from))
   copy-long h = rw (le-leb 1 (length to) (omega arith), lt-leb (length to) 1200001 h)
 
   pub copy-refused : {c : Checked.Checked} {r : Refusal} → c ≡ checkedBy (readStore from) → c ≡ Checked.the-variants.Refused r → (openedNumbers (Refused r), to) ≡ copyRun from to
   unfolding copyRun
   copy-refused h e = rw (refused-store from (sym e ∙ h))
 
-  pub copied : Good from → {x : List ℕ × List ℕ} → x ≡ written to (room (length to) (held from)) → x ≡ copyRun from to
+  pub copied : Good from → {x : List ℕ × List ℕ} → x ≡ copiedInto to (room (length to) (held from)) → x ≡ copyRun from to
   unfolding copyRun
   copied g e = rw g e

@@ -12,11 +12,11 @@ use Rattle.machine.specs.Store.{Machine, records, capacity, goodLength, readSto
 use Rattle.machine.specs.declared.Refusal.the-variants.{BadLength, NoCapacity}
 use Rattle.laws.specs.Layout.{read-layOut, read-fit}
 use Rattle.laws.specs.Steps.{refusal-number}
-use Rattle.copies.specs.Copy.{room, written, copyRun}
+use Rattle.copies.specs.Copy.{room, copiedInto, copyRun}
 
 module _ (from to : List ℕ) where
   abbrev Same : Result Machine → Result Machine → Type 0
-  Same r x = written to x .0 ≡ 0 ∷ [] → readStore (written to x .1) ≡ r
+  Same r x = copiedInto to x .0 ≡ 0 ∷ [] → readStore (copiedInto to x .1) ≡ r
 
   by-room : (m : Machine) → readStore from ≡ ok m → (a b : Bool) → goodLength (length to) ≡ a → leb (length (records m)) (capacity (length to)) ≡ b
       → Same (ok m) (need a BadLength >> (need b NoCapacity >> ok m))

@@ -16,11 +16,11 @@ room n m = do
   ok m
 
 -- the answer's numbers, and the words afterwards
-abbrev pub written : List ℕ → Result Machine → List ℕ × List ℕ
-written to (ok m) = (openedNumbers Done, layOut (length to) m)
-written to (refused r) = (openedNumbers (Refused r), to)
+abbrev pub copiedInto : List ℕ → Result Machine → List ℕ × List ℕ
+copiedInto to (ok m) = (openedNumbers Done, layOut (length to) m)
+copiedInto to (refused r) = (openedNumbers (Refused r), to)
 
 -- 1 and 2 by the store that is copied, then 1 and 8 by the words that it is to stand in, which hold exactly the same structure afterwards;
 -- a refusal changes nothing
 unfoldable pub copyRun : List ℕ → List ℕ → List ℕ × List ℕ
-copyRun from to = written to (readStore from >>= room (length to))
+copyRun from to = copiedInto to (readStore from >>= room (length to))

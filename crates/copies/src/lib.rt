@@ -5,7 +5,7 @@ ghost use lib.ListN.{length, take};
 ghost use Rattle.machine.specs.Answer.{openedNumbers};
 ghost use Rattle.machine.specs.Store.{laid};
 ghost use Rattle.seek.specs.Seek.{held, Good};
-ghost use Rattle.copies.specs.Copy.{room, written, copyRun};
+ghost use Rattle.copies.specs.Copy.{room, copiedInto, copyRun};
 use machine::Opened;
 use machine::Record;
 use machine::Refusal;
@@ -32,7 +32,7 @@ fn lay_out(words: &[u64], to: &mut [u64])
 // From a store that was checked.
 fn copy_good(from: &[u64], to: &mut [u64]) -> Opened
     requires { ⌜ Good (now from) ⌝ }
-    ensures { λ r. ⌜ (openedNumbers r, now (to .exit)) ≡ written (now (to .entry)) (room (length (now (to .entry))) (held (now (from .entry)))) ⌝ }
+    ensures { λ r. ⌜ (openedNumbers r, now (to .exit)) ≡ copiedInto (now (to .entry)) (room (length (now (to .entry))) (held (now (from .entry)))) ⌝ }
 {
     let n = to.len();
     if n < 1 {

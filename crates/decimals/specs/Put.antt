@@ -5,5 +5,5 @@ use lib.ListN.{length}
 use Rattle.moves.specs.Over.{over}
 
 -- b written over s from index `at` on: the index where it ends, and s afterwards
-abbrev pub put : List ℕ → ℕ → List ℕ → ℕ × List ℕ
-put b at s = (at + length b, over at b s)
+abbrev pub putAt : List ℕ → ℕ → List ℕ → ℕ × List ℕ
+putAt b at s = (at + length b, over at b s)

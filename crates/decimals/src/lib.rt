@@ -4,12 +4,12 @@ ghost use mathlib.Core.List.{[], _∷_, _++_};
 ghost use Prim.Native.Nat.{_+_, _≤_};
 ghost use lib.ListN.{length};
 ghost use Rattle.machine.specs.Program.{digits, decimal};
-ghost use Rattle.decimals.specs.Put.{put};
+ghost use Rattle.decimals.specs.Put.{putAt};
 
 // One byte.
 fn put_byte(text: &mut [u8], at: usize, b: u8) -> usize
     requires { ⌜ at + 1 ≤ length (now text) ⌝ }
-    ensures { λ r. ⌜ (r, now (text .exit)) ≡ put (b ∷ []) at (now (text .entry)) ⌝ }
+    ensures { λ r. ⌜ (r, now (text .exit)) ≡ putAt (b ∷ []) at (now (text .entry)) ⌝ }
 {
     text[at] = b;
     at + 1
@@ -18,7 +18,7 @@ fn put_byte(text: &mut [u8], at: usize, b: u8) -> usize
 // All bytes of b.
 pub fn put_bytes(text: &mut [u8], at: usize, b: &[u8]) -> usize
     requires { ⌜ at + length (now b) ≤ length (now text) ⌝ }
-    ensures { λ r. ⌜ (r, now (text .exit)) ≡ put (now (b .entry)) at (now (text .entry)) ⌝ }
+    ensures { λ r. ⌜ (r, now (text .exit)) ≡ putAt (now (b .entry)) at (now (text .entry)) ⌝ }
 {
     let mut written: usize = 0;
     while written < b.len() {
@@ -31,7 +31,7 @@ pub fn put_bytes(text: &mut [u8], at: usize, b: &[u8]) -> usize
 // A number's decimal digits, at most `places` of them.
 fn put_digits(text: &mut [u8], at: usize, n: u64, places: usize) -> usize
     requires { ⌜ at + places ≤ length (now text) ⌝ }
-    ensures { λ r. ⌜ (r, now (text .exit)) ≡ put (digits places n) at (now (text .entry)) ⌝ }
+    ensures { λ r. ⌜ (r, now (text .exit)) ≡ putAt (digits places n) at (now (text .entry)) ⌝ }
 {
     if places == 0 {
         return at;
@@ -46,7 +46,7 @@ fn put_digits(text: &mut [u8], at: usize, n: u64, places: usize) -> usize
 // A number, and the byte after it.
 pub fn put_number(text: &mut [u8], at: usize, n: u64, after: u8) -> usize
     requires { ⌜ at + 21 ≤ length (now text) ⌝ }
-    ensures { λ r. ⌜ (r, now (text .exit)) ≡ put (decimal n ++ (after ∷ [])) at (now (text .entry)) ⌝ }
+    ensures { λ r. ⌜ (r, now (text .exit)) ≡ putAt (decimal n ++ (after ∷ [])) at (now (text .entry)) ⌝ }
 {
     let next = put_digits(text, at, n, 20);
     put_byte(text, next, after)

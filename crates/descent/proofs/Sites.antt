@@ -15,7 +15,7 @@ use Rattle.machine.specs.Find.{Site, enter, below}
 use Rattle.machine.specs.declared.RecordNumbers.{RecordNumbers}
 use Rattle.laws.specs.Scan.{above}
 use Rattle.seek.specs.Seek.{recordAt}
-use Rattle.terms.specs.Levels.{placeAt, numbersIn}
+use Rattle.terms.specs.Levels.{placeAt, fiveNumbers}
 use Rattle.descent.specs.Descent.{five, siteAt, UpTo}
 
 -- ---- places
@@ -63,17 +63,17 @@ above-above a b l s =
 
 -- ---- a record that is entered
 
-abbrev pub pick : Bool → RecordNumbers → RecordNumbers → RecordNumbers
-pick true a b = a
-pick false a b = b
+abbrev pub choose : Bool → RecordNumbers → RecordNumbers → RecordNumbers
+choose true a b = a
+choose false a b = b
 
 -- record n of kind k is the last that was seen
 unfoldable pub enteredAt : ℕ → ℕ → RecordNumbers → RecordNumbers
 enteredAt k n at =
-    pick (eqb k 1) (record { model = n; chain = at .chain; residue = at .residue; conformer = at .conformer; atom = at .atom })
-    (pick (eqb k 2) (record { model = at .model; chain = n; residue = at .residue; conformer = at .conformer; atom = at .atom })
-    (pick (eqb k 3) (record { model = at .model; chain = at .chain; residue = n; conformer = at .conformer; atom = at .atom })
-    (pick (eqb k 4) (record { model = at .model; chain = at .chain; residue = at .residue; conformer = n; atom = at .atom })
+    choose (eqb k 1) (record { model = n; chain = at .chain; residue = at .residue; conformer = at .conformer; atom = at .atom })
+    (choose (eqb k 2) (record { model = at .model; chain = n; residue = at .residue; conformer = at .conformer; atom = at .atom })
+    (choose (eqb k 3) (record { model = at .model; chain = at .chain; residue = n; conformer = at .conformer; atom = at .atom })
+    (choose (eqb k 4) (record { model = at .model; chain = at .chain; residue = at .residue; conformer = n; atom = at .atom })
     (record { model = at .model; chain = at .chain; residue = at .residue; conformer = at .conformer; atom = n }))))
 
 -- what stands above a record of kind k
@@ -115,17 +115,17 @@ site-below w (suc (suc (suc (suc (suc (suc k)))))) n at l h = absurd (omega arit
 
 -- ---- the five numbers
 
-up-pick : (n : ℕ) (b : Bool) (x y : RecordNumbers) → UpTo n x → UpTo n y → UpTo n (pick b x y)
-up-pick n true x y u v = u
-up-pick n false x y u v = v
+up-choose : (n : ℕ) (b : Bool) (x y : RecordNumbers) → UpTo n x → UpTo n y → UpTo n (choose b x y)
+up-choose n true x y u v = u
+up-choose n false x y u v = v
 
 pub up-entered : (k n : ℕ) (at : RecordNumbers) → UpTo n at → UpTo n (enteredAt k n at)
 unfolding enteredAt
 up-entered k n at u =
-    up-pick n (eqb k 1) _ _ (record { model = omega arith; chain = u .chain; residue = u .residue; conformer = u .conformer; atom = u .atom })
-    (up-pick n (eqb k 2) _ _ (record { model = u .model; chain = omega arith; residue = u .residue; conformer = u .conformer; atom = u .atom })
-    (up-pick n (eqb k 3) _ _ (record { model = u .model; chain = u .chain; residue = omega arith; conformer = u .conformer; atom = u .atom })
-    (up-pick n (eqb k 4) _ _ (record { model = u .model; chain = u .chain; residue = u .residue; conformer = omega arith; atom = u .atom })
+    up-choose n (eqb k 1) _ _ (record { model = omega arith; chain = u .chain; residue = u .residue; conformer = u .conformer; atom = u .atom })
+    (up-choose n (eqb k 2) _ _ (record { model = u .model; chain = omega arith; residue = u .residue; conformer = u .conformer; atom = u .atom })
+    (up-choose n (eqb k 3) _ _ (record { model = u .model; chain = u .chain; residue = omega arith; conformer = u .conformer; atom = u .atom })
+    (up-choose n (eqb k 4) _ _ (record { model = u .model; chain = u .chain; residue = u .residue; conformer = omega arith; atom = u .atom })
     (record { model = u .model; chain = u .chain; residue = u .residue; conformer = u .conformer; atom = omega arith }))))
 
 pub up-next : (n : ℕ) (at : RecordNumbers) → UpTo n at → UpTo (n + 1) at
@@ -133,7 +133,7 @@ up-next n at u =
     record { model = omega (arith, u .model); chain = omega (arith, u .chain); residue = omega (arith, u .residue); conformer = omega (arith, u .conformer); atom = omega (arith, u .atom) }
 
 -- a list of five has them
-pub five-is : (l : List ℕ) → length l ≡ 5 → l ≡ five (numbersIn l)
+pub five-is : (l : List ℕ) → length l ≡ 5 → l ≡ five (fiveNumbers l)
 five-is [] h = absurd (omega arith)
 five-is (a ∷ []) h = absurd (omega arith)
 five-is (a ∷ b ∷ []) h = absurd (omega arith)
@@ -143,7 +143,7 @@ five-is (a ∷ b ∷ c ∷ d ∷ e ∷ []) h = refl
 five-is (a ∷ b ∷ c ∷ d ∷ e ∷ f ∷ l) h = absurd (omega arith)
 
 -- `enter` writes the number of its kind
-pub entered-five : (k n : ℕ) (at : RecordNumbers) → 1 ≤ k → k ≤ 5 → numbersIn (set (five at) (k - 1) n) ≡ enteredAt k n at
+pub entered-five : (k n : ℕ) (at : RecordNumbers) → 1 ≤ k → k ≤ 5 → fiveNumbers (set (five at) (k - 1) n) ≡ enteredAt k n at
 unfolding enteredAt
 entered-five zero n at l h = absurd (omega arith)
 entered-five (suc zero) n at l h = refl

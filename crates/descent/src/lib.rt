@@ -7,7 +7,7 @@ ghost use mathlib.Core.Path.{_≡_};
 ghost use Prim.Native.Nat.{_-_, _≤_};
 ghost use lib.ListN.{set};
 ghost use Rattle.machine.specs.Query.{readTree};
-ghost use Rattle.terms.specs.Levels.{numbersIn, Inside};
+ghost use Rattle.terms.specs.Levels.{fiveNumbers, Inside};
 ghost use Rattle.search.specs.Nodes.{checked, lowestFrom};
 ghost use Rattle.search.specs.declared.CheckedTree.the-variants.{Good};
 ghost use Rattle.descent.specs.Descent.{five, start as startAt, valueBy, Sure, Turned};
@@ -68,10 +68,10 @@ pub fn turn(
     residues: &[u64],
     atoms: &[u64],
 ) -> State
-    requires { ⌜ (checked (readTree (now tree)) ≡ Good) × Inside (now store) (numbersIn (now at)) × (1 ≤ kind)
-        × Sure (valueBy (now store) (now tree) low (now residues) (now atoms) (numbersIn (now at))) sure kind × (lowest ≡ lowestFrom 5 (now tree)) ⌝ }
+    requires { ⌜ (checked (readTree (now tree)) ≡ Good) × Inside (now store) (fiveNumbers (now at)) × (1 ≤ kind)
+        × Sure (valueBy (now store) (now tree) low (now residues) (now atoms) (fiveNumbers (now at))) sure kind × (lowest ≡ lowestFrom 5 (now tree)) ⌝ }
     ensures { λ r. ⌜ Turned
-        (valueBy (now (store .entry)) (now (tree .entry)) low (now (residues .entry)) (now (atoms .entry)) (numbersIn (now (at .entry)))) kind r ⌝ }
+        (valueBy (now (store .entry)) (now (tree .entry)) low (now (residues .entry)) (now (atoms .entry)) (fiveNumbers (now (at .entry)))) kind r ⌝ }
 {
     if sure < kind {
         return State::new(kind, sure);

@@ -42,7 +42,7 @@ module _ {A : Type 0} where
       rw (f, b)
 
 -- what stands around the second branch, once it has moved, is what is left: where the first ends before it, and where it ends before the first
-pub record Turned (kids R P Q : List Words) (gone qa qb : ℕ) : Type 0 where
+pub record TurnedBlocks (kids R P Q : List Words) (gone qa qb : ℕ) : Type 0 where
   pub later : qa ≤ gone → length P ≡ gone + length kids → P ++ Q ≡ cutTurned gone qa gone (qb - 1) R
   pub earlier : qb ≤ qa → length P ≡ gone → P ++ Q ≡ cutTurned gone gone (qb - 1) (qa - 1) R
 
@@ -88,5 +88,5 @@ module _ (own : Words) (kids R R₁ X rest p q P Q : List Words) (gone qa qb : �
       let s = seam (p ++ (own ∷ kids)) q X rest (append-assoc p (own ∷ kids) q ∙ sym second ∙ first) (omega arith) in
       earlier-at (s .middle) (s .front) (s .back) k
 
-  pub turned : Turned kids R P Q gone qa qb
+  pub turned : TurnedBlocks kids R P Q gone qa qb
   turned = record { later = turned-later; earlier = turned-earlier }

@@ -21,7 +21,7 @@ use Rattle.seek.proofs.Laws.{at-span, Stands, stands, missing, Stood, span-some
 use Rattle.seek.specs.declared.Span as Span
 use Rattle.joins.specs.Join.{joinOn, cutTurned}
 use Rattle.joins.proofs.Shift.{Apart, later, earlier, apart}
-use Rattle.joins.proofs.Blocks.{Turned, turned}
+use Rattle.joins.proofs.Blocks.{TurnedBlocks, turned}
 
 -- ---- what a join gives, by the spans of its two positions
 
@@ -135,7 +135,7 @@ module _ (d j : ℕ) (a b : List ℕ) (la : length a ≡ suc d) (lb : length b �
       order : Apart d (suc j) b 0 (length kids) (grown (sa .branch) (sb .branch)) pa qa pb qb
       order = apart d (suc j) a b 0 (length kids) m _ pa qa pb qb la lb e more ea eb
 
-      blocks : Turned kids (flats m) (stood .spot .pre) (stood .spot .post) pb qa qb
+      blocks : TurnedBlocks kids (flats m) (stood .spot .pre) (stood .spot .post) pb qa qb
       unfolding flat
       blocks =
           let x = sa .spot in

@@ -15,7 +15,7 @@ use Rattle.machine.specs.declared.Edited as Edited
 use Rattle.laws.specs.Lists.{All-append}
 use Rattle.laws.specs.Grouped.{concat, twelve-words}
 use Rattle.laws.specs.Layout.{read-length, read-fit, fit-words, length-parts, layOut-read}
-use Rattle.moves.specs.Over.{removed, rotated, Twelve}
+use Rattle.moves.specs.Over.{takenOut, rotated, Twelve}
 use Rattle.moves.proofs.Records.{twelve-take, twelve-drop, remove-laid, rotate-laid}
 use Rattle.seek.specs.Seek.{Good, held, span, spanOf}
 use Rattle.seek.specs.declared.Span as Span
@@ -36,7 +36,7 @@ room w g =
 
 module _ (n : ℕ) (rs : List Words) (t : Twelve rs) (gone a m b : ℕ) where
   turned-words : 12 * length rs < n → gone < length rs → a ≤ m → m ≤ b → b < length rs
-      → rotated (12 * a) (12 * m) (12 * b) (set (removed (12 * gone) (12 * (gone + 1)) (12 * length rs) (laid n (concat rs))) (n - 1) (12 * (length rs - 1)))
+      → rotated (12 * a) (12 * m) (12 * b) (set (takenOut (12 * gone) (12 * (gone + 1)) (12 * length rs) (laid n (concat rs))) (n - 1) (12 * (length rs - 1)))
       ≡ laid n (concat (cutTurned gone a m b rs))
   unfolding cutTurned
   turned-words f g l k h =
@@ -45,12 +45,12 @@ module _ (n : ℕ) (rs : List Words) (t : Twelve rs) (gone a m b : ℕ) where
       let c = remove-laid n rs t gone (gone + 1) (omega arith) (omega arith) f in
       let o : b ≤ length left = simp (length-append, length-take, length-drop) (omega arith) in
       let q : Twelve left = All-append _ (take gone rs) (drop (gone + 1) rs) (twelve-take gone rs t) (twelve-drop (gone + 1) rs t) in
-      ap (rotated (12 * a) (12 * m) (12 * b)) (ap (set (removed (12 * gone) (12 * (gone + 1)) (12 * length rs) (laid n (concat rs))) (n - 1)) (ap (λ (x : ℕ). 12 * x) (sym e)) ∙ c)
+      ap (rotated (12 * a) (12 * m) (12 * b)) (ap (set (takenOut (12 * gone) (12 * (gone + 1)) (12 * length rs) (laid n (concat rs))) (n - 1)) (ap (λ (x : ℕ). 12 * x) (sym e)) ∙ c)
       ∙ rotate-laid n left q a m b l k o
       ∙ rw add-one
 
 pub turn-law : (w w₁ w₂ : List ℕ) (gone a m b count : ℕ) → Turns w gone a m b → count ≡ length (records (held w))
-    → w₁ ≡ removed (12 * gone) (12 * (gone + 1)) (12 * count) w → w₂ ≡ rotated (12 * a) (12 * m) (12 * b) (set w₁ (length w - 1) (12 * (count - 1)))
+    → w₁ ≡ takenOut (12 * gone) (12 * (gone + 1)) (12 * count) w → w₂ ≡ rotated (12 * a) (12 * m) (12 * b) (set w₁ (length w - 1) (12 * (count - 1)))
     → w₂ ≡ laid (length w) (concat (cutTurned gone a m b (records (held w))))
 unfolding layOut
 turn-law w w₁ w₂ gone a m b count t c e f =
@@ -58,7 +58,7 @@ turn-law w w₁ w₂ gone a m b count t c e f =
     let r = room w (t .good) in
     let g = turned-words (length w) rs (twelve-words (held w)) gone a m b (r .trailer) (t .there) (t .low) (t .high) (t .room) in
     let l : laid (length w) (concat rs) ≡ w = layOut-read w (held w) (t .good) in
-    f ∙ rw (e, c) (ap (λ (x : List ℕ). rotated (12 * a) (12 * m) (12 * b) (set (removed (12 * gone) (12 * (gone + 1)) (12 * length rs) x) (length w - 1) (12 * (length rs - 1)))) (sym l) ∙ g)
+    f ∙ rw (e, c) (ap (λ (x : List ℕ). rotated (12 * a) (12 * m) (12 * b) (set (takenOut (12 * gone) (12 * (gone + 1)) (12 * length rs) x) (length w - 1) (12 * (length rs - 1)))) (sym l) ∙ g)
 
 -- ---- the returns of `join_at`
 

@@ -22,8 +22,8 @@ use Rattle.seek.specs.Seek.{Good, Within, held, recordsIn, descendants, spanOf}
 use Rattle.seek.proofs.Below.{under, flat-root}
 use Rattle.seek.proofs.Laws.{whole-within, whole-records}
 use Rattle.seek.specs.declared.Span as Span
-use Rattle.lookup.specs.Level.{wanted, answer, firstWanted, Level, spanWanted}
-use Rattle.lookup.proofs.Scan.{next, part, none-left}
+use Rattle.lookup.specs.Level.{wanted, lookupNumbers, firstWanted, Level, spanWanted}
+use Rattle.lookup.proofs.Scan.{next-branch, part-of, none-left}
 
 -- ---- a branch that is found
 
@@ -107,9 +107,9 @@ inside-down k serial o w u start stop i from end d =
     let b = under (suc k) t in
     let h : length (s .pre ++ (r ∷ [])) ≡ suc (length (s .pre)) = omega (arith, length-append (s .pre) (r ∷ [])) in
     let e : recordsIn (start + 1) stop w ≡ (s .pre ++ (r ∷ [])) ++ (b ++ s .post) = i .below ∙ s .was ∙ rw (flat-root (suc k) t) (sym (append-assoc (s .pre) (r ∷ []) (b ++ s .post))) in
-    let p = part w (start + 1) stop (from + 1) (s .pre ++ (r ∷ [])) (b ++ s .post) (i .within .order) e (omega (arith, i .number, s .number, d .number)) in
+    let p = part-of w (start + 1) stop (from + 1) (s .pre ++ (r ∷ [])) (b ++ s .post) (i .within .order) e (omega (arith, i .number, s .number, d .number)) in
     let n : end ≡ from + 1 + length b = omega (arith, d .last, ap length (flat-root (suc k) t)) in
-    let q = part w (from + 1) stop end b (s .post) (p .high) (p .after) n in
+    let q = part-of w (from + 1) stop end b (s .post) (p .high) (p .after) n in
     record { number = d .number; within = record { order = omega arith; room = omega (arith, i .within .room, q .high) }; below = q .is }
 
 -- the first model
@@ -123,7 +123,7 @@ first : (w : List ℕ) → Good w → (count : ℕ) → count ≡ length (record
 unfolding flat
 first w g count c n stop e =
     let q : recordsIn 0 count w ≡ records (held w) = ap (λ (x : ℕ). recordsIn 0 x w) c ∙ whole-records w g in
-    let t = next 4 (omega arith) w count 0 stop (held w) (omega arith) q e in
+    let t = next-branch 4 (omega arith) w count 0 stop (held w) (omega arith) q e in
     let b = whole-within w g .room in
     record {
       model = t .branch;
@@ -138,11 +138,11 @@ module _ (w : List ℕ) (serial flag : ℕ) (text : List ℕ) where
   abbrev o : Optional
   o = optionalOf flag text
 
-  pub bad-flag : 1 < flag → lookedUpNumbers (Refused BadIdentifier) ≡ answer serial o (held w)
+  pub bad-flag : 1 < flag → lookedUpNumbers (Refused BadIdentifier) ≡ lookupNumbers serial o (held w)
   bad-flag l = rw (lt-leb flag 1 l)
 
   module _ (small : flag ≤ 1) (g : Good w) (count : ℕ) (c : count ≡ length (records (held w))) where
-    pub no-model : count ≡ 0 → lookedUpNumbers NotFound ≡ answer serial o (held w)
+    pub no-model : count ≡ 0 → lookedUpNumbers NotFound ≡ lookupNumbers serial o (held w)
     no-model z =
         let e : held w ≡ [] = none-left 4 (held w) (ap (λ (x : ℕ). recordsIn 0 x w) (sym z ∙ c) ∙ whole-records w g) in
         rw (le-leb flag 1 small, e)
@@ -154,14 +154,14 @@ module _ (w : List ℕ) (serial flag : ℕ) (text : List ℕ) where
       top : First w end₀
       top = first w g count c n end₀ e
 
-      answered : (x : Option RecordNumbers) → lookupIn serial o (0, top .model) ≡ x → answer serial o (held w) ≡ lookedUp (ok x)
+      answered : (x : Option RecordNumbers) → lookupIn serial o (0, top .model) ≡ x → lookupNumbers serial o (held w) ≡ lookedUp (ok x)
       answered x f = rw (le-leb flag 1 small, top .is, f)
 
       pub chains : Level 3 1 end₀ w
       chains = inside-level 3 (omega arith) w (0, top .model) 0 end₀ (top .inside)
 
       module _ (r₁ : Span.Span) (a₁ : r₁ ≡ spanOf (spanWanted 3 serial o 1 end₀ w)) where
-        pub no-chain : r₁ ≡ Span.the-variants.Missing → lookedUpNumbers NotFound ≡ answer serial o (held w)
+        pub no-chain : r₁ ≡ Span.the-variants.Missing → lookedUpNumbers NotFound ≡ lookupNumbers serial o (held w)
         unfolding lookupIn wanted
         no-chain m = sym (answered none (rw (no-child 3 (omega arith) w (0, top .model) 0 end₀ (top .inside) serial o r₁ a₁ m)))
 
@@ -176,7 +176,7 @@ module _ (w : List ℕ) (serial flag : ℕ) (text : List ℕ) where
           residues = inside-level 2 (omega arith) w (d₁ .child) chain end₁ i₁
 
           module _ (r₂ : Span.Span) (a₂ : r₂ ≡ spanOf (spanWanted 2 serial o (chain + 1) end₁ w)) where
-            pub no-residue : r₂ ≡ Span.the-variants.Missing → lookedUpNumbers NotFound ≡ answer serial o (held w)
+            pub no-residue : r₂ ≡ Span.the-variants.Missing → lookedUpNumbers NotFound ≡ lookupNumbers serial o (held w)
             unfolding lookupIn wanted
             no-residue m = sym (answered none (rw (d₁ .there, no-child 2 (omega arith) w (d₁ .child) chain end₁ i₁ serial o r₂ a₂ m)))
 
@@ -191,7 +191,7 @@ module _ (w : List ℕ) (serial flag : ℕ) (text : List ℕ) where
               conformers = inside-level 1 (omega arith) w (d₂ .child) residue end₂ i₂
 
               module _ (r₃ : Span.Span) (a₃ : r₃ ≡ spanOf (spanWanted 1 serial o (residue + 1) end₂ w)) where
-                pub no-conformer : r₃ ≡ Span.the-variants.Missing → lookedUpNumbers NotFound ≡ answer serial o (held w)
+                pub no-conformer : r₃ ≡ Span.the-variants.Missing → lookedUpNumbers NotFound ≡ lookupNumbers serial o (held w)
                 unfolding lookupIn wanted
                 no-conformer m = sym (answered none (rw (d₁ .there, d₂ .there, no-child 1 (omega arith) w (d₂ .child) residue end₂ i₂ serial o r₃ a₃ m)))
 
@@ -206,7 +206,7 @@ module _ (w : List ℕ) (serial flag : ℕ) (text : List ℕ) where
                   atoms = inside-level 0 (omega arith) w (d₃ .child) conformer end₃ i₃
 
                   module _ (r₄ : Span.Span) (a₄ : r₄ ≡ spanOf (spanWanted 0 serial o (conformer + 1) end₃ w)) where
-                    pub no-atom : r₄ ≡ Span.the-variants.Missing → lookedUpNumbers NotFound ≡ answer serial o (held w)
+                    pub no-atom : r₄ ≡ Span.the-variants.Missing → lookedUpNumbers NotFound ≡ lookupNumbers serial o (held w)
                     unfolding lookupIn wanted
                     no-atom m = sym (answered none (rw (d₁ .there, d₂ .there, d₃ .there, no-child 0 (omega arith) w (d₃ .child) conformer end₃ i₃ serial o r₄ a₄ m)))
 
@@ -214,6 +214,6 @@ module _ (w : List ℕ) (serial flag : ℕ) (text : List ℕ) where
                       d₄ : Down 0 serial o w (d₃ .child) atom end₄
                       d₄ = down 0 (omega arith) w (d₃ .child) conformer end₃ i₃ serial o r₄ a₄ atom end₄ b₄
 
-                      pub found : lookedUpNumbers (At (record { model = 0; chain = chain; residue = residue; conformer = conformer; atom = atom })) ≡ answer serial o (held w)
+                      pub found : lookedUpNumbers (At (record { model = 0; chain = chain; residue = residue; conformer = conformer; atom = atom })) ≡ lookupNumbers serial o (held w)
                       unfolding lookupIn wanted
                       found = sym (answered (some (record { model = 0; chain = chain; residue = residue; conformer = conformer; atom = atom })) (rw (d₁ .there, d₂ .there, d₃ .there, d₄ .there, d₁ .number, d₂ .number, d₃ .number, d₄ .number)))

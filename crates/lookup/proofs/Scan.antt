@@ -65,8 +65,8 @@ pub record Part (w : List ℕ) (from end stop : ℕ) (b rest : List Words) : Typ
   pub is : recordsIn from stop w ≡ b
   pub after : recordsIn stop end w ≡ rest
 
-pub part : (w : List ℕ) (from end stop : ℕ) (b rest : List Words) → from ≤ end → recordsIn from end w ≡ b ++ rest → stop ≡ from + length b → Part w from end stop b rest
-part w from end stop b rest o e s =
+pub part-of : (w : List ℕ) (from end stop : ℕ) (b rest : List Words) → from ≤ end → recordsIn from end w ≡ b ++ rest → stop ≡ from + length b → Part w from end stop b rest
+part-of w from end stop b rest o e s =
     let c = chunks end w in
     let m = chunks-length end w in
     let n : stop ≤ end = omega (arith, ap length e, length-append b rest, length-drop from c) in
@@ -88,10 +88,10 @@ stop-at g k l at t more =
     let c : _≡_ {A = ℕ × ℕ} (at, suc at + descendants (suc g) rs) (at, at + suc (length (under k t))) = cc in
     ap (λ (z : ℕ × ℕ). z .1) c ∙ rw (flat-root k t)
 
-pub next : (k : ℕ) → k ≤ 4 → (w : List ℕ) (end at stop : ℕ) (left : List (Branch k)) → at < end → recordsIn at end w ≡ bind (flat k) left
+pub next-branch : (k : ℕ) → k ≤ 4 → (w : List ℕ) (end at stop : ℕ) (left : List (Branch k)) → at < end → recordsIn at end w ≡ bind (flat k) left
     → stop ≡ at + 1 + descendants (5 - k) (recordsIn (at + 1) end w) → Next k w end at stop left
-next k l w end at stop [] h e s = let z = ap length (sym (recordsIn-cons w end at h) ∙ e) in absurd (omega arith)
-next k l w end at stop (t ∷ more) h e s =
+next-branch k l w end at stop [] h e s = let z = ap length (sym (recordsIn-cons w end at h) ∙ e) in absurd (omega arith)
+next-branch k l w end at stop (t ∷ more) h e s =
     let rs = under k t ++ bind (flat k) more in
     let q : recordAt at w ∷ recordsIn (at + 1) end w ≡ words k (root k t) ∷ rs = sym (recordsIn-cons w end at h) ∙ e ∙ rw (flat-root k t) in
     let a : recordAt at w ≡ words k (root k t) = cc in
@@ -100,7 +100,7 @@ next k l w end at stop (t ∷ more) h e s =
     let z : suc at + descendants (suc (4 - k)) rs ≡ at + size k t = stop-at (4 - k) k (omega arith) at t more in
     let n : stop ≡ at + size k t = s ∙ rw (b, g) (omega arith) in
     let u : size k t ≡ suc (length (under k t)) = ap length (flat-root k t) in
-    let p = part w (at + 1) end stop (under k t) (bind (flat k) more) (omega arith) b (omega arith) in
+    let p = part-of w (at + 1) end stop (under k t) (bind (flat k) more) (omega arith) b (omega arith) in
     record { branch = t; more = more; left-is = refl; stop-is = n; past = omega arith; high = p .high; own = a; below = p .is; rest = p .after }
 
 -- ---- first_in
@@ -135,7 +135,7 @@ module _ (k serial : ℕ) (o : Optional) (w : List ℕ) (from end : ℕ) (p : Le
 
     module _ (l : at < end) (stop : ℕ) (e : stop ≡ at + 1 + descendants (5 - k) (recordsIn (at + 1) end w)) where
       here : Next k w end at stop (s .left)
-      here = next k (omega (arith, p .level)) w end at stop (s .left) l (s .rest) e
+      here = next-branch k (omega (arith, p .level)) w end at stop (s .left) l (s .rest) e
 
       pub looked-within : Within (at + 1) stop w
       looked-within =

@@ -26,8 +26,8 @@ wanted (suc zero) serial o f = hasAtom serial o f
 wanted (suc (suc k)) serial o t = spans serial (serials (suc (suc k)) t)
 
 -- the answer's numbers for a store that holds m: "only a bad flag gives 6"
-abbrev pub answer : ℕ → Optional → Machine → List ℕ
-answer serial o m = lookedUp (need (goodFlag o) (badName AlternativeLocation) >> ok (inFirst serial o m))
+abbrev pub lookupNumbers : ℕ → Optional → Machine → List ℕ
+lookupNumbers serial o m = lookedUp (need (goodFlag o) (badName AlternativeLocation) >> ok (inFirst serial o m))
 
 -- the first branch that is wanted, of those numbered from n on
 abbrev pub firstWanted : (k : ℕ) → ℕ → Optional → ℕ → List (Branch k) → Option (ℕ × Branch k)

@@ -8,7 +8,7 @@ ghost use Rattle.machine.specs.Answer.{lookedUpNumbers};
 ghost use Rattle.machine.specs.Text.{optionalOf};
 ghost use Rattle.machine.specs.Lookup.{spans};
 ghost use Rattle.seek.specs.Seek.{Good, Within, held, recordAt, recordsIn, spanOf};
-ghost use Rattle.lookup.specs.Level.{answer, Level, spanWanted, atomSerials, wantedRecords};
+ghost use Rattle.lookup.specs.Level.{lookupNumbers, Level, spanWanted, atomSerials, wantedRecords};
 use machine::LookedUp;
 use machine::Record;
 use machine::RecordNumbers;
@@ -129,7 +129,7 @@ fn first_in(
 // none." There is no going back: what a level takes is all that the next looks into.
 pub fn binary_find_atom(store: &[u64], serial: u64, flag: u64, location: &[u8]) -> LookedUp
     requires { ⌜ Good (now store) ⌝ }
-    ensures { λ r. ⌜ lookedUpNumbers r ≡ answer serial (optionalOf flag (now (location .entry))) (held (now (store .entry))) ⌝ }
+    ensures { λ r. ⌜ lookedUpNumbers r ≡ lookupNumbers serial (optionalOf flag (now (location .entry))) (held (now (store .entry))) ⌝ }
 {
     if 1 < flag {
         return LookedUp::Refused(Refusal::BadIdentifier);

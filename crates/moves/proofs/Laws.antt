@@ -7,7 +7,7 @@ use native.Mathlib.Numerals.{add-one}
 use native.Mathlib.Omega.{arith}
 use lib.ListN.{length, take, drop, getD, set, replicate, length-append, length-take, length-drop, take-append-drop, List·getD-append}
 use lib.Seq.{drop-cons, take-suc, set-at, append-snoc, getD-drop, getD-append-add, length-take-le, getD-take, take-at, drop-at, drop-drop, take-append-le, drop-append-le, take-take}
-use Rattle.moves.specs.Over.{over, part, removed, gapped, reversed, rotated}
+use Rattle.moves.specs.Over.{over, part, takenOut, gapped, reversed, rotated}
 
 -- ---- parts of a list
 
@@ -201,9 +201,9 @@ module _ (p x y q : List ℕ) (a m b : ℕ) (before : length p ≡ a) (middle : 
   unfolding rotated
   rotated-at = rw (take-at p (x ++ (y ++ q)) a before, part-at p x (y ++ q) a m before middle, second-at, after-at)
 
-  pub removed-at : removed a m b (p ++ (x ++ (y ++ q))) ≡ p ++ (y ++ (replicate (length x) 0 ++ q))
-  unfolding removed
-  removed-at =
+  pub takenOut-at : takenOut a m b (p ++ (x ++ (y ++ q))) ≡ p ++ (y ++ (replicate (length x) 0 ++ q))
+  unfolding takenOut
+  takenOut-at =
       let e : m - a ≡ length x = omega arith in
       rw (take-at p (x ++ (y ++ q)) a before, second-at, after-at, e)
 

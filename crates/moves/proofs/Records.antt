@@ -9,8 +9,8 @@ use Rattle.machine.specs.Record.{Words}
 use Rattle.machine.specs.Store.{laid}
 use Rattle.laws.specs.Lists.{All-append, All-left, All-right, bind-append}
 use Rattle.laws.specs.Grouped.{concat, concat-length}
-use Rattle.moves.specs.Over.{over, part, removed, gapped, rotated, Twelve}
-use Rattle.moves.proofs.Laws.{part-length, rotated-length, split-two, split-three, over-length, over-at, removed-at, gapped-at, rotated-at}
+use Rattle.moves.specs.Over.{over, part, takenOut, gapped, rotated, Twelve}
+use Rattle.moves.proofs.Laws.{part-length, rotated-length, split-two, split-three, over-length, over-at, takenOut-at, gapped-at, rotated-at}
 
 pub twelve-take : (x : ℕ) (rs : List Words) → Twelve rs → Twelve (take x rs)
 twelve-take x rs t = All-left _ (take x rs) (drop x rs) (rw take-append-drop t)
@@ -97,11 +97,11 @@ module _ (ps xs ys : List Words) (rest : List ℕ) (t : Twelve (ps ++ (xs ++ ys)
   y-words : 12 * m + length (concat ys) ≡ 12 * b
   y-words = omega (arith, concat-length ys (All-right _ xs ys (All-right _ ps (xs ++ ys) t)))
 
-  pub remove-blocks : removed (12 * a) (12 * m) (12 * b) (concat (ps ++ (xs ++ ys)) ++ rest) ≡ concat (ps ++ ys) ++ (replicate (12 * (m - a)) 0 ++ rest)
+  pub remove-blocks : takenOut (12 * a) (12 * m) (12 * b) (concat (ps ++ (xs ++ ys)) ++ rest) ≡ concat (ps ++ ys) ++ (replicate (12 * (m - a)) 0 ++ rest)
   remove-blocks =
       let e : 12 * (m - a) ≡ length (concat xs) = omega (arith, x-words) in
       rw (parts, concat-append, e)
-      (removed-at (concat ps) (concat xs) (concat ys) rest (12 * a) (12 * m) (12 * b) p-words x-words y-words ∙ simp append-assoc)
+      (takenOut-at (concat ps) (concat xs) (concat ys) rest (12 * a) (12 * m) (12 * b) p-words x-words y-words ∙ simp append-assoc)
 
   pub rotate-blocks : rotated (12 * a) (12 * m) (12 * b) (concat (ps ++ (xs ++ ys)) ++ rest) ≡ concat (ps ++ (ys ++ xs)) ++ rest
   rotate-blocks =
@@ -119,10 +119,10 @@ module _ (ps xs ys : List Words) (rest : List ℕ) (t : Twelve (ps ++ (xs ++ ys)
 
 module _ (rs : List Words) (rest : List ℕ) (t : Twelve rs) where
   pub remove-records : (x y : ℕ) → x ≤ y → y ≤ length rs
-      → removed (12 * x) (12 * y) (12 * length rs) (concat rs ++ rest) ≡ concat (take x rs ++ drop y rs) ++ (replicate (12 * (y - x)) 0 ++ rest)
+      → takenOut (12 * x) (12 * y) (12 * length rs) (concat rs ++ rest) ≡ concat (take x rs ++ drop y rs) ++ (replicate (12 * (y - x)) 0 ++ rest)
   remove-records x y l h =
       let e = split-two x y rs l in
-      ap (λ (v : List Words). removed (12 * x) (12 * y) (12 * length rs) (concat v ++ rest)) e
+      ap (λ (v : List Words). takenOut (12 * x) (12 * y) (12 * length rs) (concat v ++ rest)) e
       ∙ remove-blocks (take x rs) (part x y rs) (drop y rs) rest (subst Twelve e t) x y (length rs) (length-take-le x rs (omega arith))
       (omega (arith, part-length x y rs h)) (omega (arith, length-drop y rs))
 
@@ -189,7 +189,7 @@ counted rs n t e = concat-length rs t ∙ ap (λ (k : ℕ). 12 * k) e
 
 module _ (n : ℕ) (rs : List Words) (t : Twelve rs) where
   pub remove-laid : (x y : ℕ) → x ≤ y → y ≤ length rs → 12 * length rs < n
-      → set (removed (12 * x) (12 * y) (12 * length rs) (laid n (concat rs))) (n - 1) (12 * (length rs - (y - x))) ≡ laid n (concat (take x rs ++ drop y rs))
+      → set (takenOut (12 * x) (12 * y) (12 * length rs) (laid n (concat rs))) (n - 1) (12 * (length rs - (y - x))) ≡ laid n (concat (take x rs ++ drop y rs))
   unfolding laid
   remove-laid x y l h f =
       let new : List Words = take x rs ++ drop y rs in

@@ -7,7 +7,7 @@ use native.Mathlib.Numerals.{add-one}
 use native.Mathlib.Omega.{arith}
 use lib.ListN.{length, take, drop, getD, set, replicate, length-append, length-drop, length-replicate, length-reverse, drop-of-length-le}
 use lib.Seq.{drop-cons, take-suc, take-all, set-at, append-snoc, getD-drop, getD-take, length-take-le}
-use Rattle.moves.specs.Over.{over, part, removed, gapped, reversed, rotated}
+use Rattle.moves.specs.Over.{over, part, takenOut, gapped, reversed, rotated}
 use Rattle.moves.proofs.Laws.{words, part-length, split-two, split-three, over-none, getD-below, getD-above, over-over, over-under, over-snoc, over-cons, reversed-at}
 
 -- ---- the loops that write upwards
@@ -86,8 +86,8 @@ over-two at b b′ s end e = rw (e, append-assoc b b′)
 
 pub remove-law : (s s₁ s₂ : List ℕ) (from to end : ℕ) → from ≤ to → to ≤ end → end ≤ length s
     → s₁ ≡ over from (take (end - to) (drop to s)) s → s₂ ≡ over (from + (end - to)) (replicate (to - from) 0) s₁
-    → s₂ ≡ removed from to end s
-unfolding removed part
+    → s₂ ≡ takenOut from to end s
+unfolding takenOut part
 remove-law s s₁ s₂ from to end h k f e₁ e₂ =
     let b : List ℕ = take (end - to) (drop to s) in
     let z : List ℕ = replicate (to - from) 0 in

@@ -25,8 +25,8 @@ module _ {A : Type 0} where
   rotated a m b s = take a s ++ (part m b s ++ (part a m s ++ drop b s))
 
 -- s with the words from `from` to `to` taken out of its first `end`, and as many zeros after those that are left
-unfoldable pub removed : ℕ → ℕ → ℕ → List ℕ → List ℕ
-removed from to end s = take from s ++ (part to end s ++ (replicate (to - from) 0 ++ drop end s))
+unfoldable pub takenOut : ℕ → ℕ → ℕ → List ℕ → List ℕ
+takenOut from to end s = take from s ++ (part to end s ++ (replicate (to - from) 0 ++ drop end s))
 
 -- s with n zeros put in at `at`, where the words up to `end` move up over the n that follow `end`
 unfoldable pub gapped : ℕ → ℕ → ℕ → List ℕ → List ℕ

@@ -2,7 +2,7 @@
 ghost use mathlib.Core.Path.{_≡_};
 ghost use Prim.Native.Nat.{_+_, _≤_};
 ghost use lib.ListN.{length, take, drop, replicate};
-ghost use Rattle.moves.specs.Over.{over, removed, gapped, reversed, rotated};
+ghost use Rattle.moves.specs.Over.{over, takenOut, gapped, reversed, rotated};
 use machine::Record;
 
 // The words of `from` are written over those at `at`.
@@ -64,7 +64,7 @@ pub fn keep_record(s: &mut [u64], from: usize, to: usize)
 // The words from `from` to `to` go, those up to `end` move down, and zeros fill what that leaves below `end`.
 pub fn remove_words(s: &mut [u64], from: usize, to: usize, end: usize)
     requires { ⌜ (from ≤ to) × (to ≤ end) × (end ≤ length (now s)) ⌝ }
-    ensures { λ _. ⌜ now (s .exit) ≡ removed from to end (now (s .entry)) ⌝ }
+    ensures { λ _. ⌜ now (s .exit) ≡ takenOut from to end (now (s .entry)) ⌝ }
 {
     move_down(s, to, from, end - to);
     clear(s, from + (end - to), to - from);

@@ -25,7 +25,7 @@ use Rattle.places.specs.Place.{rank, chainKey, Ranked, Kept, Known, Land
 use Rattle.places.specs.declared.Place as Place
 use Rattle.places.specs.declared.Spot as Spot
 use Rattle.places.proofs.Picks.{unmarked}
-use Rattle.places.proofs.Spans.{to-span, not-found, child-front, pick-front, pick-fresh, pick-none, pick-last, span-put, Inside, picked-inside, model-inside, model-span, recordsIn-split, descendants-whole}
+use Rattle.places.proofs.Spans.{to-span, not-found, child-front, pick-front, pick-fresh, pick-none, pick-last, span-put, SpanInside, picked-inside, model-inside, model-span, recordsIn-split, descendants-whole}
 
 -- ---- a place put to use
 
@@ -190,7 +190,7 @@ module _ (w w′ : List ℕ) (n : Prepare) (v : Atom) (model start end id serial
   new-kinds : (h : ℕ) → h ≤ suc (s .depth) → All (λ r. h < kind r) new
   new-kinds h b = All-map (λ r q. omega arith) new (kinds-new n serial v (s .depth) (l .depth))
 
-  model-bounds : Inside 0 (length (recordsOf w)) start end
+  model-bounds : SpanInside 0 (length (recordsOf w)) start end
   model-bounds = model-inside w good model start end m
 
   model-within : Within (start + 1) end w
@@ -200,7 +200,7 @@ module _ (w w′ : List ℕ) (n : Prepare) (v : Atom) (model start end id serial
       let c = chunks-length (Store.end w / 12) w in
       record { order = omega (arith, b .order); room = omega (arith, b .high) }
 
-  chain-bounds : 1 ≤ s .depth → Inside (start + 1) end (s .chain) (s .«chain_end»)
+  chain-bounds : 1 ≤ s .depth → SpanInside (start + 1) end (s .chain) (s .«chain_end»)
   chain-bounds h = picked-inside w (start + 1) end 2 model-within (chainKey id) (s .chain) (s .«chain_end») (l .chain h)
 
   below-model : start < s .at

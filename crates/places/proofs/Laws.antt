@@ -24,7 +24,7 @@ use Rattle.places.specs.Pick.{Key, whichOf, keyOf, marks, pickStart, pic
 use Rattle.places.specs.Place.{chainKey, Lands}
 use Rattle.places.specs.declared.Child as Child
 use Rattle.places.proofs.Picks.{or-none, pick-pass, pick-within}
-use Rattle.places.proofs.Spans.{Inside, picked-inside}
+use Rattle.places.proofs.Spans.{SpanInside, picked-inside}
 
 -- ---- is_marked
 
@@ -165,7 +165,7 @@ module _ (w : List ℕ) (h : ℕ) (key : Key) (from end : ℕ) (r : Span.Span) (
     pub spot-span : pickSpan h key from (recordsIn from end w) ≡ some (start, stop)
     spot-span = at-span (pickSpan h key from (recordsIn from end w)) start stop (sym e ∙ m)
 
-    pub spot-inside : Within from end w → Inside from end start stop
+    pub spot-inside : Within from end w → SpanInside from end start stop
     spot-inside b = picked-inside w from end h b key start stop spot-span
 
     pub spot-within : Within from end w → Within (start + 1) stop w

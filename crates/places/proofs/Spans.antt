@@ -146,13 +146,13 @@ module _ (h n : ℕ) (find : List Words → Option ℕ) (front : Fronted find) w
 
 -- ---- a span's bounds
 
-pub record Inside (from end start stop : ℕ) : Type 0 where
+pub record SpanInside (from end start stop : ℕ) : Type 0 where
   pub low : from ≤ start
   pub order : start < stop
   pub high : stop ≤ end
 
 module _ (w : List ℕ) (from end h : ℕ) (b : Within from end w) where
-  ended-inside : (c : Option ℕ) (start stop : ℕ) → ((o : ℕ) → c ≡ some o → from + o < end) → toSpan h from c (recordsIn from end w) ≡ some (start, stop) → Inside from end start stop
+  ended-inside : (c : Option ℕ) (start stop : ℕ) → ((o : ℕ) → c ≡ some o → from + o < end) → toSpan h from c (recordsIn from end w) ≡ some (start, stop) → SpanInside from end start stop
   ended-inside c start stop f e =
       let d = ended h from c (recordsIn from end w) start stop e in
       let x = d .number in
@@ -163,13 +163,13 @@ module _ (w : List ℕ) (from end h : ℕ) (b : Within from end w) where
       let t = end-within w (from + suc (d .offset)) end h (record { order = omega arith; room = b .room }) in
       record { low = omega arith; order = omega arith; high = omega arith }
 
-  pub picked-inside : (key : Key) (start stop : ℕ) → pickSpan h key from (recordsIn from end w) ≡ some (start, stop) → Inside from end start stop
+  pub picked-inside : (key : Key) (start stop : ℕ) → pickSpan h key from (recordsIn from end w) ≡ some (start, stop) → SpanInside from end start stop
   picked-inside key start stop e =
       ended-inside (pick (key .which) (marks h key) (recordsIn from end w)) start stop
       (λ o q. omega (arith, b .order, pick-within (marks h key) (key .which) (recordsIn from end w) o q, length-drop from (chunks end w), chunks-length end w))
       e
 
-pub model-inside : (w : List ℕ) → Good w → (i start stop : ℕ) → childSpan 1 i 0 (recordsOf w) ≡ some (start, stop) → Inside 0 (length (recordsOf w)) start stop
+pub model-inside : (w : List ℕ) → Good w → (i start stop : ℕ) → childSpan 1 i 0 (recordsOf w) ≡ some (start, stop) → SpanInside 0 (length (recordsOf w)) start stop
 model-inside w g i start stop e =
     let c = chunks-length (end w / 12) w in
     let l = read-parts w (held w) g .low in

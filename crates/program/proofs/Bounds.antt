@@ -27,8 +27,8 @@ use Rattle.laws.specs.Layout.{read-fit}
 use Rattle.search.proofs.Nodes.{node-refused}
 use Rattle.demands.proofs.Runs.{fives-words, hits-five}
 use Rattle.decimals.proofs.Laws.{digits-few}
-use Rattle.program.proofs.Parts.{words-length}
-use Rattle.program.specs.Text.{line, lines, lastLine, answered}
+use Rattle.program.proofs.Parts.{wordsIn-length}
+use Rattle.program.specs.Text.{line, lines, lastLine, answerText}
 
 -- ---- the hits
 
@@ -92,7 +92,7 @@ store-short bs i h = by-length (eqb (length bs % 8) 0 && leb 1 (length bs)) (leb
         → (need b BadFile >> ok (record { store = take start ws; tree = take (last - start) (drop start ws) })) ≡ ok i → length (i .store) ≤ 8191
     by-start l true e h =
         let s : take start ws ≡ i .store = cc in
-        omega (arith, leb-true start last e, ap length s, length-take start ws, words-length (length bs / 8) bs)
+        omega (arith, leb-true start last e, ap length s, length-take start ws, wordsIn-length (length bs / 8) bs)
     by-start l false e h = let z : _≡_ {A = ℕ} 0 1 = cc in absurd (omega arith)
 
     by-length : (a b : Bool) → leb (length bs) 65536 ≡ b → (need (a && b) BadFile >> split ws) ≡ ok i → length (i .store) ≤ 8191
@@ -252,7 +252,7 @@ never-ten bs h = by-input (readInput bs) refl h
     by-hits w t (ok hs) e h = omega (arith, hits-start hs (hits-are-five w t hs e), ap (λ (l : List ℕ). getD l 0 0) h)
     by-hits w t (refused r) e h = hits-other w t r e (ten r h)
 
-    by-input : (x : Result Input) → readInput bs ≡ x → answered x ≡ bytes "refused 10\n" → ⊥
+    by-input : (x : Result Input) → readInput bs ≡ x → answerText x ≡ bytes "refused 10\n" → ⊥
     by-input (ok i) e h = by-hits (i .store) (i .tree) (hitsOf (i .store) (i .tree)) refl h
     by-input (refused r) e h = input-other bs r e (ten r h)
 
@@ -267,6 +267,6 @@ text-fits bs = by-input (readInput bs) refl
         omega (arith, ap length (hits-printed w t hs e []), length-append (lines n ws) (lastLine n), lines-few n ws, last-few n, hits-682 w t hs l e)
     by-hits w t l (refused r) e = omega (arith, refused-few r)
 
-    by-input : (x : Result Input) → readInput bs ≡ x → length (answered x) ≤ 71637
+    by-input : (x : Result Input) → readInput bs ≡ x → length (answerText x) ≤ 71637
     by-input (ok i) e = by-hits (i .store) (i .tree) (store-short bs i e) (hitsOf (i .store) (i .tree)) refl
     by-input (refused r) e = omega (arith, refused-few r)

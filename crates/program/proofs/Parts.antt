@@ -27,8 +27,8 @@ module _ {B : Type 0} (k : ℕ) (f : List ℕ → B) (g : ℕ → List ℕ → L
 pub words-snoc : (n : ℕ) (bs : List ℕ) → wordsIn (suc n) bs ≡ wordsIn n bs ++ (littleEndian (take 8 (drop (n * 8) bs)) ∷ [])
 words-snoc = parts-snoc 8 littleEndian wordsIn (λ xs. refl) (λ n xs. refl)
 
-pub words-length : (n : ℕ) (bs : List ℕ) → length (wordsIn n bs) ≡ n
-words-length = parts-length 8 littleEndian wordsIn (λ xs. refl) (λ n xs. refl)
+pub wordsIn-length : (n : ℕ) (bs : List ℕ) → length (wordsIn n bs) ≡ n
+wordsIn-length = parts-length 8 littleEndian wordsIn (λ xs. refl) (λ n xs. refl)
 
 pub lines-snoc : (n : ℕ) (ws : List ℕ) → lines (suc n) ws ≡ lines n ws ++ line (take 5 (drop (n * 5) ws))
 lines-snoc n ws =

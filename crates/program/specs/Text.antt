@@ -26,5 +26,5 @@ abbrev pub lastLine : ℕ → List ℕ
 lastLine n = bytes "found " ++ decimal n ++ newline
 
 -- what is printed of an input, once it is read or refused
-abbrev pub answered : Result Input → List ℕ
-answered x = printed (x >>= (λ i. hitsOf (i .store) (i .tree)))
+abbrev pub answerText : Result Input → List ℕ
+answerText x = printed (x >>= (λ i. hitsOf (i .store) (i .tree)))

@@ -11,8 +11,8 @@ ghost use Rattle.machine.specs.Answer.{refused};
 ghost use Rattle.machine.specs.Find.{hitsOf};
 ghost use Rattle.machine.specs.Program.{littleEndian, wordsIn, split, printed, programRun};
 ghost use Rattle.moves.specs.Over.{over};
-ghost use Rattle.decimals.specs.Put.{put};
-ghost use Rattle.program.specs.Text.{Counts, line, lines, lastLine, answered};
+ghost use Rattle.decimals.specs.Put.{putAt};
+ghost use Rattle.program.specs.Text.{Counts, line, lines, lastLine, answerText};
 
 // The longest text: 682 hits, each of five numbers that have at most 20 digits, and the line of their count.
 pub const TEXT: usize = 71637;
@@ -59,7 +59,7 @@ fn readable(bytes: usize) -> bool
 // "each hit as five decimals"
 fn put_hit(text: &mut [u8], at: usize, hit: &[u64]) -> usize
     requires { ⌜ (length (now hit) ≡ 5) × (at + 105 ≤ length (now text)) ⌝ }
-    ensures { λ r. ⌜ (r, now (text .exit)) ≡ put (line (now (hit .entry))) at (now (text .entry)) ⌝ }
+    ensures { λ r. ⌜ (r, now (text .exit)) ≡ putAt (line (now (hit .entry))) at (now (text .entry)) ⌝ }
 {
     let chain = decimals::put_number(text, at, hit[0], b' ');
     let residue = decimals::put_number(text, chain, hit[1], b' ');
@@ -71,7 +71,7 @@ fn put_hit(text: &mut [u8], at: usize, hit: &[u64]) -> usize
 // The first n hits.
 fn put_hits(text: &mut [u8], hits: &[u64], n: usize) -> usize
     requires { ⌜ (n * 5 ≤ length (now hits)) × (n * 105 ≤ length (now text)) ⌝ }
-    ensures { λ r. ⌜ (r, now (text .exit)) ≡ put (lines n (now (hits .entry))) 0 (now (text .entry)) ⌝ }
+    ensures { λ r. ⌜ (r, now (text .exit)) ≡ putAt (lines n (now (hits .entry))) 0 (now (text .entry)) ⌝ }
 {
     let mut at: usize = 0;
     let mut i: usize = 0;
@@ -86,7 +86,7 @@ fn put_hits(text: &mut [u8], hits: &[u64], n: usize) -> usize
 // "It prints each hit as five decimals, then the count"
 fn put_found(text: &mut [u8], hits: &[u64], n: usize) -> usize
     requires { ⌜ (n * 5 ≤ length (now hits)) × (n * 105 + 27 ≤ length (now text)) ⌝ }
-    ensures { λ r. ⌜ (r, now (text .exit)) ≡ put (lines n (now (hits .entry)) ++ lastLine n) 0 (now (text .entry)) ⌝ }
+    ensures { λ r. ⌜ (r, now (text .exit)) ≡ putAt (lines n (now (hits .entry)) ++ lastLine n) 0 (now (text .entry)) ⌝ }
 {
     let end = put_hits(text, hits, n);
     let at = decimals::put_bytes(text, end, b"found ");
@@ -96,7 +96,7 @@ fn put_found(text: &mut [u8], hits: &[u64], n: usize) -> usize
 // "A refusal prints `refused` and its number."
 fn put_refused(text: &mut [u8], r: Refusal) -> usize
     requires { ⌜ 29 ≤ length (now text) ⌝ }
-    ensures { λ n. ⌜ (n, now (text .exit)) ≡ put (printed (refused r)) 0 (now (text .entry)) ⌝ }
+    ensures { λ n. ⌜ (n, now (text .exit)) ≡ putAt (printed (refused r)) 0 (now (text .entry)) ⌝ }
 {
     let at = decimals::put_bytes(text, 0, b"refused ");
     decimals::put_number(text, at, answers::refusal_number(r), b'\n')
@@ -107,7 +107,7 @@ fn put_refused(text: &mut [u8], r: Refusal) -> usize
 // The answer of find. A store of 8,191 words has 682 records, so that there is room for each hit.
 fn put_answer(store: &[u64], tree: &[u64], text: &mut [u8]) -> usize
     requires { ⌜ (length (now store) ≤ 8191) × (71637 ≤ length (now text)) ⌝ }
-    ensures { λ r. ⌜ (r, now (text .exit)) ≡ put (printed (hitsOf (now (store .entry)) (now (tree .entry)))) 0 (now (text .entry)) ⌝ }
+    ensures { λ r. ⌜ (r, now (text .exit)) ≡ putAt (printed (hitsOf (now (store .entry)) (now (tree .entry)))) 0 (now (text .entry)) ⌝ }
 {
     let mut hits = [0u64; 3410];
     let found = walk::find(store, tree, &mut hits);
@@ -120,7 +120,7 @@ fn put_answer(store: &[u64], tree: &[u64], text: &mut [u8]) -> usize
 // "store, tree, and a last word holding the word index where the tree starts"
 fn answer_words(words: &[u64], text: &mut [u8]) -> usize
     requires { ⌜ (1 ≤ length (now words)) × (length (now words) ≤ 8192) × (71637 ≤ length (now text)) ⌝ }
-    ensures { λ r. ⌜ (r, now (text .exit)) ≡ put (answered (split (now (words .entry)))) 0 (now (text .entry)) ⌝ }
+    ensures { λ r. ⌜ (r, now (text .exit)) ≡ putAt (answerText (split (now (words .entry)))) 0 (now (text .entry)) ⌝ }
 {
     let last = words.len() - 1;
     let start = words[last] as usize;
@@ -132,7 +132,7 @@ fn answer_words(words: &[u64], text: &mut [u8]) -> usize
 
 // What the program writes, given what it reads: the text's first bytes, and how many they are. The others stay.
 pub fn answer(input: &[u8], text: &mut [u8; TEXT]) -> usize
-    ensures run { λ r. ⌜ (r, now (text .exit)) ≡ put (programRun (now (input .entry))) 0 (now (text .entry)) ⌝ }
+    ensures run { λ r. ⌜ (r, now (text .exit)) ≡ putAt (programRun (now (input .entry))) 0 (now (text .entry)) ⌝ }
     ensures within { λ r. ⌜ Counts r (now (text .exit)) ⌝ }
 {
     if readable(input.len()) {

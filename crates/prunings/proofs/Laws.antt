@@ -17,7 +17,7 @@ use Rattle.machine.specs.declared.Edited as Edited
 use Rattle.machine.specs.declared.Refusal.the-variants.{NoPosition}
 use Rattle.laws.specs.Lists.{All}
 use Rattle.laws.specs.Grouped.{concat, concat-length, chunks-length}
-use Rattle.moves.specs.Over.{over, part, removed, Twelve}
+use Rattle.moves.specs.Over.{over, part, takenOut, Twelve}
 use Rattle.moves.proofs.Laws.{over-none, over-length, over-under, take-over, part-below}
 use Rattle.moves.proofs.Records.{remove-laid}
 use Rattle.seek.specs.Seek.{held, Good, Within, recordAt, recordsIn, span, spanOf}
@@ -37,7 +37,7 @@ pub close-none : (w : List ℕ) (to end : ℕ) → Laid w → to ≡ end → w �
 close-none w to end l e = rw (e, take-append-drop end (recordsOf w)) (l .is)
 
 pub close-law : (w s : List ℕ) (to end : ℕ) → Laid w → to ≤ end → end ≤ length (recordsOf w)
-    → s ≡ removed (to * 12) (end * 12) (getD w (length w - 1) 0 / 12 * 12) w
+    → s ≡ takenOut (to * 12) (end * 12) (getD w (length w - 1) 0 / 12 * 12) w
     → set s (length w - 1) ((getD w (length w - 1) 0 / 12 - (end - to)) * 12) ≡ laid (length w) (concat (take to (recordsOf w) ++ drop end (recordsOf w)))
 close-law w s to end l o h e =
     let rs = recordsOf w in
@@ -47,7 +47,7 @@ close-law w s to end l o h e =
     let b : end * 12 ≡ 12 * end = omega arith in
     let d : getD w (length w - 1) 0 / 12 * 12 ≡ 12 * length rs = omega arith in
     let f : (getD w (length w - 1) 0 / 12 - (end - to)) * 12 ≡ 12 * (length rs - (end - to)) = omega arith in
-    let g : s ≡ removed (12 * to) (12 * end) (12 * length rs) (laid n (concat rs)) = e ∙ rw (a, b, d) (ap (removed (12 * to) (12 * end) (12 * length rs)) (l .is)) in
+    let g : s ≡ takenOut (12 * to) (12 * end) (12 * length rs) (laid n (concat rs)) = e ∙ rw (a, b, d) (ap (takenOut (12 * to) (12 * end) (12 * length rs)) (l .is)) in
     rw (f, g) (remove-laid n rs (l .twelve) to end o h (l .room))
 
 -- ---- `stays`

@@ -14,15 +14,15 @@ use Rattle.machine.specs.declared.Edited.the-variants.{Done}
 use Rattle.laws.specs.Lists.{sum-append}
 use Rattle.laws.specs.Grouped.{concat, twelve-words}
 use Rattle.laws.specs.Layout.{layOut-read, read-parts, read-length, length-parts}
-use Rattle.moves.specs.Over.{removed, Twelve}
+use Rattle.moves.specs.Over.{takenOut, Twelve}
 use Rattle.moves.proofs.Records.{remove-laid}
 use Rattle.seek.specs.Seek.{Good, held, recordsIn, atomRecords}
 use Rattle.seek.proofs.Below.{chunks-take}
-use Rattle.seek.proofs.Laws.{Stands, records-count, whole-records, atoms-stored}
+use Rattle.seek.proofs.Laws.{Stands, records-count, whole-records, atomRecords-stored}
 use Rattle.removals.specs.Removal.{Removable, withoutRecords}
 
 -- what stands before and after the records from number p up to q, which the second list has not
-pub record Cut (rs rs′ : List Words) (p q : ℕ) : Type 0 where
+pub record CutOut (rs rs′ : List Words) (p q : ℕ) : Type 0 where
   pub pre : List Words
   pub mid : List Words
   pub post : List Words
@@ -31,7 +31,7 @@ pub record Cut (rs rs′ : List Words) (p q : ℕ) : Type 0 where
   pub first : p ≡ length pre
   pub last : q ≡ p + length mid
 
-module _ (rs rs′ : List Words) (p q : ℕ) (c : Cut rs rs′ p q) where
+module _ (rs rs′ : List Words) (p q : ℕ) (c : CutOut rs rs′ p q) where
   pub cut-high : q ≤ length rs
   cut-high =
       let e = ap length (c .was) ∙ length-append (c .pre) (c .mid ++ c .post) in
@@ -66,12 +66,12 @@ pub words-cut : (w : List ℕ) (rs : List Words) → Twelve rs → (p q : ℕ) �
 unfolding withoutRecords
 words-cut w rs t p q o h e l f =
     let s : end w - 12 * (q - p) ≡ 12 * (length rs - (q - p)) = omega arith in
-    ap (λ (x : ℕ). set (removed (12 * p) (12 * q) (end w) w) (length w - 1) x) s
-    ∙ ap (λ (x : ℕ). set (removed (12 * p) (12 * q) x w) (length w - 1) (12 * (length rs - (q - p)))) e
-    ∙ ap (λ (x : List ℕ). set (removed (12 * p) (12 * q) (12 * length rs) x) (length w - 1) (12 * (length rs - (q - p)))) (sym f)
+    ap (λ (x : ℕ). set (takenOut (12 * p) (12 * q) (end w) w) (length w - 1) x) s
+    ∙ ap (λ (x : ℕ). set (takenOut (12 * p) (12 * q) x w) (length w - 1) (12 * (length rs - (q - p)))) e
+    ∙ ap (λ (x : List ℕ). set (takenOut (12 * p) (12 * q) (12 * length rs) x) (length w - 1) (12 * (length rs - (q - p)))) (sym f)
     ∙ remove-laid (length w) rs t p q o h (omega arith)
 
-module _ (w : List ℕ) (g : Good w) (m′ : Machine) (p q : ℕ) (c : Cut (records (held w)) (records m′) p q) where
+module _ (w : List ℕ) (g : Good w) (m′ : Machine) (p q : ℕ) (c : CutOut (records (held w)) (records m′) p q) where
   ends : end w ≡ 12 * length (records (held w))
   ends = omega (arith, records-count w (held w) g, read-parts w (held w) g .multiple)
 
@@ -91,7 +91,7 @@ module _ (w : List ℕ) (g : Good w) (m′ : Machine) (p q : ℕ) (c : Cut (reco
   cut-atoms : atomRecords (recordsIn p q w) ≡ stored (held w) - stored m′
   cut-atoms =
       let rs = records (held w) in
-      rw (chunks-take q (length rs) w (cut-high _ _ p q c), whole-records w g, cut-taken _ _ p q c, ← atoms-stored (held w), ← atoms-stored m′) (cut-counts _ _ p q c)
+      rw (chunks-take q (length rs) w (cut-high _ _ p q c), whole-records w g, cut-taken _ _ p q c, ← atomRecords-stored (held w), ← atomRecords-stored m′) (cut-counts _ _ p q c)
 
   -- "removed, the atom records before minus those after"
   pub cut-step : (step : Machine → Result Change) → step (held w) ≡ ok (changed m′) → (r : ℕ) (s : List ℕ) → r ≡ atomRecords (recordsIn p q w) → s ≡ withoutRecords p q w
@@ -101,7 +101,7 @@ module _ (w : List ℕ) (g : Good w) (m′ : Machine) (p q : ℕ) (c : Cut (reco
 
 -- the records of a branch that gives way to none
 pub cut-branch : (d j : ℕ) (pos : List ℕ) (ts : List (Branch (up d j))) (p q : ℕ) → Stands d j pos 0 ts p q
-    → Cut (bind (flat (up d j)) ts) (bind (flat (up d j)) (replaceAt d j pos [] ts)) p q
+    → CutOut (bind (flat (up d j)) ts) (bind (flat (up d j)) (replaceAt d j pos [] ts)) p q
 cut-branch d j pos ts p q s =
     record {
       pre = s .spot .pre;

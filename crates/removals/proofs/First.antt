@@ -18,8 +18,8 @@ use Rattle.laws.specs.Places.{Around}
 use Rattle.seek.specs.Seek.{descendants}
 use Rattle.seek.proofs.Below.{under, flat-root, under-kinds, descendants-over}
 use Rattle.seek.proofs.Laws.{Stands}
-use Rattle.removals.specs.Named.{before}
-use Rattle.removals.proofs.Cut.{Cut}
+use Rattle.removals.specs.Named.{countBefore}
+use Rattle.removals.proofs.Cut.{CutOut}
 
 -- a child by its index, and by how many records stand before its own
 pub record Child (j : ℕ) (ts : List (Branch j)) (i o : ℕ) : Type 0 where
@@ -52,7 +52,7 @@ module _ (j : ℕ) (ts : List (Branch j)) (i o : ℕ) (c : Child j ts i o) where
 -- its records go with it
 pub cut-child : (d j : ℕ) (pos : List ℕ) (ts : List (Branch (up d (suc j)))) (p q : ℕ) (s : Stands d (suc j) pos 0 ts p q) (i o : ℕ) (c : Child j (s .branch .1) i o) (at stop : ℕ)
     → at ≡ p + 1 + o → stop ≡ at + size j (c .branch)
-    → Cut (bind (flat (up d (suc j))) ts) (bind (flat (up d (suc j))) (withChildren d j pos (s .branch) (splice i (λ u. []) (s .branch .1)) ts)) at stop
+    → CutOut (bind (flat (up d (suc j))) ts) (bind (flat (up d (suc j))) (withChildren d j pos (s .branch) (splice i (λ u. []) (s .branch .1)) ts)) at stop
 unfolding flat
 cut-child d j pos ts p q s i o c at stop e f =
     let b = bind (flat j) (c .around .before) in
@@ -78,32 +78,32 @@ Picked j (some i) ts o = Child j ts i o
 
 module _ (h j : ℕ) (level : h + j ≡ 5) (p : Fields j → Bool) (test : Words → Bool) (agree : (f : Fields j) → test (words j f) ≡ p f)
     (deeper : (r : Words) → h < kind r → test r ≡ false) where
-  before-under : (rs rest : List Words) → All (λ r. h < kind r) rs → before test (rs ++ rest) ≡ length rs + before test rest
-  unfolding before
-  before-under [] rest a = omega arith
-  before-under (r ∷ rs) rest a = rw (deeper r (a .0), before-under rs rest (a .1)) (omega arith)
+  countBefore-under : (rs rest : List Words) → All (λ r. h < kind r) rs → countBefore test (rs ++ rest) ≡ length rs + countBefore test rest
+  unfolding countBefore
+  countBefore-under [] rest a = omega arith
+  countBefore-under (r ∷ rs) rest a = rw (deeper r (a .0), countBefore-under rs rest (a .1)) (omega arith)
 
-  before-yes : (t : Branch j) (rest : List Words) → p (root j t) ≡ true → before test (flat j t ++ rest) ≡ 0
-  unfolding before
-  before-yes t rest e = rw (flat-root j t, agree (root j t), e)
+  countBefore-yes : (t : Branch j) (rest : List Words) → p (root j t) ≡ true → countBefore test (flat j t ++ rest) ≡ 0
+  unfolding countBefore
+  countBefore-yes t rest e = rw (flat-root j t, agree (root j t), e)
 
-  before-no : (t : Branch j) (rest : List Words) → p (root j t) ≡ false → before test (flat j t ++ rest) ≡ length (flat j t) + before test rest
-  unfolding before
-  before-no t rest e = rw (flat-root j t, agree (root j t), e, before-under (under j t) rest (under-kinds h j level t)) (omega arith)
+  countBefore-no : (t : Branch j) (rest : List Words) → p (root j t) ≡ false → countBefore test (flat j t ++ rest) ≡ length (flat j t) + countBefore test rest
+  unfolding countBefore
+  countBefore-no t rest e = rw (flat-root j t, agree (root j t), e, countBefore-under (under j t) rest (under-kinds h j level t)) (omega arith)
 
-  pick-on : (t : Branch j) (ts : List (Branch j)) (b : Bool) → p (root j t) ≡ b → (o : Option ℕ) → Picked j o ts (before test (bind (flat j) ts))
-      → Picked j (cond b (some 0) (Option·map suc o)) (t ∷ ts) (before test (flat j t ++ bind (flat j) ts))
-  pick-on t ts true e o x = record { branch = t; around = record { before = []; after = ts; was = refl; is = λ f. refl }; offset = before-yes t (bind (flat j) ts) e }
-  pick-on t ts false e none x = before-no t (bind (flat j) ts) e ∙ rw x (sym (length-append (flat j t) (bind (flat j) ts)))
+  pick-on : (t : Branch j) (ts : List (Branch j)) (b : Bool) → p (root j t) ≡ b → (o : Option ℕ) → Picked j o ts (countBefore test (bind (flat j) ts))
+      → Picked j (cond b (some 0) (Option·map suc o)) (t ∷ ts) (countBefore test (flat j t ++ bind (flat j) ts))
+  pick-on t ts true e o x = record { branch = t; around = record { before = []; after = ts; was = refl; is = λ f. refl }; offset = countBefore-yes t (bind (flat j) ts) e }
+  pick-on t ts false e none x = countBefore-no t (bind (flat j) ts) e ∙ rw x (sym (length-append (flat j t) (bind (flat j) ts)))
   pick-on t ts false e (some i) x =
       let a = x .around in
       record {
         branch = x .branch;
         around = record { before = t ∷ a .before; after = a .after; was = ap (λ (l : List (Branch j)). t ∷ l) (a .was); is = λ f. ap (λ (l : List (Branch j)). t ∷ l) (a .is f) };
-        offset = before-no t (bind (flat j) ts) e ∙ rw (x .offset) (sym (length-append (flat j t) (bind (flat j) (a .before))));
+        offset = countBefore-no t (bind (flat j) ts) e ∙ rw (x .offset) (sym (length-append (flat j t) (bind (flat j) (a .before))));
       }
 
-  pub picked : (ts : List (Branch j)) → Picked j (firstWhere (λ u. p (root j u)) ts) ts (before test (bind (flat j) ts))
-  unfolding before
+  pub picked : (ts : List (Branch j)) → Picked j (firstWhere (λ u. p (root j u)) ts) ts (countBefore test (bind (flat j) ts))
+  unfolding countBefore
   picked [] = refl
   picked (t ∷ ts) = pick-on t ts (p (root j t)) refl (firstWhere (λ u. p (root j u)) ts) (picked ts)

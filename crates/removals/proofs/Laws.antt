@@ -17,19 +17,19 @@ use Rattle.machine.specs.declared.Refusal.the-variants.{NoPosition, BadIdentifi
 use Rattle.machine.specs.declared.Edited as Edited
 use Rattle.machine.specs.declared.Edited.the-variants.{Done, Refused}
 use Rattle.laws.specs.Layout.{layOut-read}
-use Rattle.moves.specs.Over.{removed}
+use Rattle.moves.specs.Over.{takenOut}
 use Rattle.seek.specs.Seek.{Good, Within, held, recordsIn, descendants, atomRecords, spanAt, span, spanOf}
 use Rattle.seek.proofs.Below.{recordsIn-cons}
 use Rattle.seek.proofs.Laws.{Stands, missing, found, stands-within, stands-records}
 use Rattle.seek.specs.declared.Span as Span
 use Rattle.removals.specs.Removal.{Removable, withoutRecords, removalOn, removal}
-use Rattle.removals.specs.Named.{Id, idOf, named, sought, before, names, flagOf, firstOn, firstRemoval}
-use Rattle.removals.proofs.Cut.{Cut, cut-removable, cut-step, cut-branch}
+use Rattle.removals.specs.Named.{Id, idOf, isNamed, sought, countBefore, names, flagOf, firstOn, firstRemoval}
+use Rattle.removals.proofs.Cut.{CutOut, cut-removable, cut-step, cut-branch}
 use Rattle.removals.proofs.First.{child-low, child-stop, cut-child, Picked, picked}
 
 -- ---- remove_span
 
-pub span-words : (w x : List ℕ) (p q : ℕ) → x ≡ removed (12 * p) (12 * q) (end w) w → set x (length w - 1) (end w - 12 * (q - p)) ≡ withoutRecords p q w
+pub span-words : (w x : List ℕ) (p q : ℕ) → x ≡ takenOut (12 * p) (12 * q) (end w) w → set x (length w - 1) (end w - 12 * (q - p)) ≡ withoutRecords p q w
 unfolding withoutRecords
 span-words w x p q e = rw e
 
@@ -46,7 +46,7 @@ record ByPosition {A : Type 0} (s : Option (ℕ × ℕ)) (r : Result A) (Found :
 record Removes (k : ℕ) (ts : List (Branch k)) (r : Result (List (Branch k))) (p q : ℕ) : Type 0 where
   after : List (Branch k)
   accepted : r ≡ ok after
-  cut : Cut (bind (flat k) ts) (bind (flat k) after) p q
+  cut : CutOut (bind (flat k) ts) (bind (flat k) after) p q
 
 removes : (d j : ℕ) (pos : List ℕ) (ts : List (Branch (up d j))) → ByPosition (spanAt d j pos 0 ts) (removeAt d j pos ts) (Removes (up d j) ts (removeAt d j pos ts))
 unfolding removeAt
@@ -88,14 +88,14 @@ module _ (w pos : List ℕ) (g : Good w) (lo : 2 ≤ length pos) (hi : length po
 record Loses (k : ℕ) (ts : List (Branch k)) (r : Result (ℕ × List (Branch k))) (at stop : ℕ) : Type 0 where
   after : List (Branch k)
   accepted : r ≡ ok (1, after)
-  cut : Cut (bind (flat k) ts) (bind (flat k) after) at stop
+  cut : CutOut (bind (flat k) ts) (bind (flat k) after) at stop
 
 -- below the parent's record p and up to q
 record BelowParent (w : List ℕ) (h : ℕ) (id : Id) (k : ℕ) (ts : List (Branch k)) (r : Result (ℕ × List (Branch k))) (p q : ℕ) : Type 0 where
   within : Within (p + 1) q w
   flagged : flagOf id ≡ refused BadIdentifier → r ≡ refused BadIdentifier
-  unfound : (at : ℕ) → flagOf id ≡ ok tt → at ≡ p + 1 + before (sought h id) (recordsIn (p + 1) q w) → q ≤ at → r ≡ ok (0, ts)
-  lost : (at stop : ℕ) → flagOf id ≡ ok tt → at ≡ p + 1 + before (sought h id) (recordsIn (p + 1) q w) → at < q → stop ≡ at + 1 + descendants h (recordsIn (at + 1) q w)
+  unfound : (at : ℕ) → flagOf id ≡ ok tt → at ≡ p + 1 + countBefore (sought h id) (recordsIn (p + 1) q w) → q ≤ at → r ≡ ok (0, ts)
+  lost : (at stop : ℕ) → flagOf id ≡ ok tt → at ≡ p + 1 + countBefore (sought h id) (recordsIn (p + 1) q w) → at < q → stop ≡ at + 1 + descendants h (recordsIn (at + 1) q w)
       → Loses k ts r at stop
 
 module _ (d j : ℕ) (pos : List ℕ) (flag : Result (Unit {0})) (f : Fields j → Bool) (ts : List (Branch (up d (suc j)))) (t : Branch (suc j)) (there : branchAt d (suc j) pos ts ≡ some t) where
@@ -130,19 +130,19 @@ module _ (w : List ℕ) (g : Good w) (d j : ℕ) (pos : List ℕ) (ts : List (Br
         let e = sym (recordsIn-cons w q p (omega (arith, ends))) ∙ stands-records w g d (suc j) pos ts p q whole s in
         ap (drop 1) e
 
-    pick : Picked j (firstWhere (λ u. f (root j u)) kids) kids (before (sought h id) (recordsIn (p + 1) q w))
+    pick : Picked j (firstWhere (λ u. f (root j u)) kids) kids (countBefore (sought h id) (recordsIn (p + 1) q w))
     pick = rw kids-records (picked h j level f (sought h id) agree (λ r l. rw (ne-eqb (kind r) h (λ e. omega arith))) kids)
 
-    not-found : (o : Option ℕ) (at : ℕ) → firstWhere (λ u. f (root j u)) kids ≡ o → Picked j o kids (before (sought h id) (recordsIn (p + 1) q w)) → flagOf id ≡ ok tt
-        → at ≡ p + 1 + before (sought h id) (recordsIn (p + 1) q w) → q ≤ at → result ≡ ok (0, ts)
+    not-found : (o : Option ℕ) (at : ℕ) → firstWhere (λ u. f (root j u)) kids ≡ o → Picked j o kids (countBefore (sought h id) (recordsIn (p + 1) q w)) → flagOf id ≡ ok tt
+        → at ≡ p + 1 + countBefore (sought h id) (recordsIn (p + 1) q w) → q ≤ at → result ≡ ok (0, ts)
     not-found none at e x fl a l = first-none d j pos (flagOf id) f ts (s .branch) (s .there) fl e
     not-found (some i) at e x fl a l = absurd (omega (arith, ends, child-low j kids i _ x))
 
-    loses : (o : Option ℕ) (at stop : ℕ) → firstWhere (λ u. f (root j u)) kids ≡ o → Picked j o kids (before (sought h id) (recordsIn (p + 1) q w)) → flagOf id ≡ ok tt
-        → at ≡ p + 1 + before (sought h id) (recordsIn (p + 1) q w) → at < q → stop ≡ at + 1 + descendants h (recordsIn (at + 1) q w) → Loses (up d (suc j)) ts result at stop
+    loses : (o : Option ℕ) (at stop : ℕ) → firstWhere (λ u. f (root j u)) kids ≡ o → Picked j o kids (countBefore (sought h id) (recordsIn (p + 1) q w)) → flagOf id ≡ ok tt
+        → at ≡ p + 1 + countBefore (sought h id) (recordsIn (p + 1) q w) → at < q → stop ≡ at + 1 + descendants h (recordsIn (at + 1) q w) → Loses (up d (suc j)) ts result at stop
     loses none at stop e x fl a l b = absurd (omega (arith, ends, x))
     loses (some i) at stop e x fl a l b =
-        let o = before (sought h id) (recordsIn (p + 1) q w) in
+        let o = countBefore (sought h id) (recordsIn (p + 1) q w) in
         let n : p + 1 + suc o ≡ at + 1 = omega arith in
         let c : recordsIn (at + 1) q w ≡ drop (suc o) (bind (flat j) kids) = rw (← n, ← kids-records) (sym (drop-drop (suc o) (p + 1) (chunks q w))) in
         let z : descendants h (recordsIn (at + 1) q w) ≡ descendants h (drop (suc o) (bind (flat j) kids)) = ap (descendants h) c in
@@ -172,7 +172,7 @@ module _ (w : List ℕ) (g : Good w) (d j : ℕ) (pos : List ℕ) (ts : List (Br
 -- a record of each kind, by its words
 first-at : (w pos : List ℕ) (id : Id) → Good w → 1 ≤ length pos → length pos ≤ 4
     → ByPosition (span pos (held w)) (firstOn (length pos) pos id (held w)) (BelowParent w (length pos + 1) id 4 (held w) (firstOn (length pos) pos id (held w)))
-unfolding named words
+unfolding isNamed words
 first-at w [] id g lo hi = absurd (omega arith)
 first-at w (i ∷ []) id g lo hi = first-by w g 0 3 _ (held w) refl 2 refl (omega arith) id (names 3 id) (λ x. refl)
 first-at w (i ∷ (c ∷ [])) id g lo hi = first-by w g 1 2 _ (held w) refl 3 refl (omega arith) id (names 2 id) (λ x. refl)
@@ -212,7 +212,7 @@ module _ {w pos : List ℕ} {p q : ℕ} (s : Parent w pos p q) (serial : ℕ) (n
   unfolding stepBy
   first-flag l = rw (s .good, below .flagged (rw (lt-leb flag 1 l)))
 
-  module _ (l : flag ≤ 1) (at : ℕ) (a : at ≡ p + 1 + before (sought (length pos + 1) given) (recordsIn (p + 1) q w)) where
+  module _ (l : flag ≤ 1) (at : ℕ) (a : at ≡ p + 1 + countBefore (sought (length pos + 1) given) (recordsIn (p + 1) q w)) where
     good-flag : flagOf given ≡ ok tt
     good-flag = rw (le-leb flag 1 l)
 

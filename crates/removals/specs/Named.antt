@@ -25,20 +25,20 @@ idOf serial name flag text = record { serial = serial; name = name; other = reco
 -- ---- over the records
 
 -- words 1 and 2 of a record of a kind are those of an id
-unfoldable pub named : ℕ → Id → ℕ → ℕ → Bool
-named kind id one two =
+unfoldable pub isNamed : ℕ → Id → ℕ → ℕ → Bool
+isNamed kind id one two =
     cond (eqb kind 2) (matches (id .name) one)
     (cond (eqb kind 4) (matches (id .name) one && matchesOptional (id .other) two)
     (eqb one (id .serial) && cond (eqb kind 3) (matchesOptional (id .other) two) true))
 
 -- a record of the kind that the id names
 abbrev pub sought : ℕ → Id → Words → Bool
-sought h id r = eqb (kind r) h && named h id (getD r 1 0) (getD r 2 0)
+sought h id r = eqb (kind r) h && isNamed h id (getD r 1 0) (getD r 2 0)
 
 -- how many stand before the first at which p holds
-unfoldable pub before : (Words → Bool) → List Words → ℕ
-before p [] = 0
-before p (r ∷ rs) = cond (p r) 0 (suc (before p rs))
+unfoldable pub countBefore : (Words → Bool) → List Words → ℕ
+countBefore p [] = 0
+countBefore p (r ∷ rs) = cond (p r) 0 (suc (countBefore p rs))
 
 -- ---- over the machine
 

@@ -6,7 +6,7 @@ use Rattle.machine.specs.Answer.{Result, refused}
 use Rattle.machine.specs.Store.{Machine, end}
 use Rattle.machine.specs.Edit.{Change, removeAt, withMachine}
 use Rattle.machine.specs.declared.Refusal.the-variants.{NoPosition}
-use Rattle.moves.specs.Over.{removed}
+use Rattle.moves.specs.Over.{takenOut}
 
 -- ---- words
 
@@ -19,7 +19,7 @@ pub record Removable (p q : ℕ) (w : List ℕ) : Type 0 where
 
 -- the words without them: zeros fill up, and the trailer is what is left
 unfoldable pub withoutRecords : ℕ → ℕ → List ℕ → List ℕ
-withoutRecords p q w = set (removed (12 * p) (12 * q) (end w) w) (length w - 1) (end w - 12 * (q - p))
+withoutRecords p q w = set (takenOut (12 * p) (12 * q) (end w) w) (length w - 1) (end w - 12 * (q - p))
 
 -- ---- positions: two indexes for a chain, five for an atom
 

@@ -6,7 +6,7 @@ ghost use Rattle.machine.specs.Answer.{editedNumbers};
 ghost use Rattle.machine.specs.Edit.{stepBy};
 ghost use Rattle.seek.specs.Seek.{Good, Within, recordsIn, atomRecords};
 ghost use Rattle.removals.specs.Removal.{Removable, withoutRecords, removal};
-ghost use Rattle.removals.specs.Named.{idOf, named, sought, before, firstRemoval, chainById, residueById, conformerById, atomBySerialNumber};
+ghost use Rattle.removals.specs.Named.{idOf, isNamed, sought, countBefore, firstRemoval, chainById, residueById, conformerById, atomBySerialNumber};
 use machine::Edited;
 use machine::Record;
 use machine::Refusal;
@@ -52,7 +52,7 @@ fn is_named(
     flag: u64,
     other: &[u8],
 ) -> bool
-    ensures { λ r. ⌜ r ≡ named kind (idOf serial (now (name .entry)) flag (now (other .entry))) one two ⌝ }
+    ensures { λ r. ⌜ r ≡ isNamed kind (idOf serial (now (name .entry)) flag (now (other .entry))) one two ⌝ }
 {
     if kind == Record::CHAIN {
         return stored::same_text(name, one);
@@ -84,7 +84,7 @@ fn first_named(
     other: &[u8],
 ) -> usize
     requires { ⌜ Within from end (now store) ⌝ }
-    ensures { λ r. ⌜ r ≡ from + before (sought kind (idOf serial (now (name .entry)) flag (now (other .entry)))) (recordsIn from end (now (store .entry))) ⌝ }
+    ensures { λ r. ⌜ r ≡ from + countBefore (sought kind (idOf serial (now (name .entry)) flag (now (other .entry)))) (recordsIn from end (now (store .entry))) ⌝ }
 {
     let mut at: usize = from;
     while at < end {

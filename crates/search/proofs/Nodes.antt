@@ -22,7 +22,7 @@ use Rattle.laws.specs.Lists.{and-both}
 use Rattle.elements.specs.Element.{elementOf}
 use Rattle.elements.specs.declared.MaybeElement.{MaybeElement}
 use Rattle.elements.specs.declared.MaybeElement.the-variants.{Is, NotOne}
-use Rattle.search.specs.Nodes.{made, nodeFor, sortOf, sorted, sortFor, fits, goodNode}
+use Rattle.search.specs.Nodes.{made, nodeFor, sortOf, sorted, sortFor, fitsCode, goodNode}
 use Rattle.search.specs.declared.Sort as Sort
 use Rattle.terms.proofs.Terms.{cases, each-key}
 
@@ -224,7 +224,7 @@ module _ (p q c : ℕ) where
     unfolding goodNode
     by-sorts h = go (codeAt c) h
       where
-        go : (o : Option Code) → sortsAre a b o ≡ true → (good a p && good b q) ≡ fits o p q
+        go : (o : Option Code) → sortsAre a b o ≡ true → (good a p && good b q) ≡ fitsCode o p q
         go none g = absurd (false≢true g)
         go (some k) g =
             let s = and-both (eqb (sort (k .p)) a) (eqb (sort (k .q)) b) g in
@@ -251,7 +251,7 @@ bad-sort c p q e = go (codeAt c) e
     has Not = refl
     has (Known b) = refl
 
-    go : (o : Option Code) → Sort.the-variants.Refused ≡ sorted o p q → fits o p q ≡ false
+    go : (o : Option Code) → Sort.the-variants.Refused ≡ sorted o p q → fitsCode o p q ≡ false
     go none h = refl
     go (some k) h = absurd (false≢true (ap hasNode h ∙ has (k .node p q)))
 
@@ -265,7 +265,7 @@ module _ (c p q : ℕ) where
   unfolding nodeOf goodNode nodeFor
   node-good h = go (codeAt c) h
     where
-      go : (o : Option Code) → fits o p q ≡ true → nodeBy o ≡ ok (made o p q)
+      go : (o : Option Code) → fitsCode o p q ≡ true → nodeBy o ≡ ok (made o p q)
       go none h = absurd (false≢true h)
       go (some k) h = rw h
 
@@ -273,7 +273,7 @@ module _ (c p q : ℕ) where
   unfolding nodeOf goodNode
   node-bad h = go (codeAt c) h
     where
-      go : (o : Option Code) → fits o p q ≡ false → nodeBy o ≡ refused TreeNode
+      go : (o : Option Code) → fitsCode o p q ≡ false → nodeBy o ≡ refused TreeNode
       go none h = refl
       go (some k) h = rw h
 

@@ -14,7 +14,7 @@ ghost use lib.ListN.{length};
 ghost use Rattle.machine.specs.Kleene as Kleene;
 ghost use Rattle.machine.specs.Query as Query;
 ghost use Rattle.machine.specs.declared.Node.the-variants.{Single};
-ghost use Rattle.terms.specs.Levels.{termValueAt, numbersIn, Inside};
+ghost use Rattle.terms.specs.Levels.{termValueAt, fiveNumbers, Inside};
 ghost use Rattle.search.specs.Nodes as Nodes;
 ghost use Rattle.search.specs.Nodes.{kindFor, lowestFrom, nodeFor, sortFor, goodNode, leftBy, deeperBy, depthOf, maybeDepth, checked};
 ghost use Rattle.search.specs.Value.{Operand, Evaluated};
@@ -304,7 +304,7 @@ fn connection(o: Ops, a: Part, b: Part) -> Part
 
 // A place's five record numbers, from the model's down.
 fn numbers(place: &[u64; 5]) -> RecordNumbers
-    ensures { λ r. ⌜ r ≡ numbersIn (now (place .entry)) ⌝ }
+    ensures { λ r. ⌜ r ≡ fiveNumbers (now (place .entry)) ⌝ }
 {
     RecordNumbers {
         model: place[0],
@@ -332,9 +332,9 @@ fn evaluate(
     residues: &[u64],
     atoms: &[u64],
 ) -> Part
-    requires { ⌜ Operand (termValueAt (now words) (numbersIn (now place)) low high (now residues) (now atoms)) (now tree)
-        × Inside (now words) (numbersIn (now place)) ⌝ }
-    ensures { λ r. ⌜ Evaluated (termValueAt (now (words .entry)) (numbersIn (now (place .entry))) low high (now (residues .entry)) (now (atoms .entry)))
+    requires { ⌜ Operand (termValueAt (now words) (fiveNumbers (now place)) low high (now residues) (now atoms)) (now tree)
+        × Inside (now words) (fiveNumbers (now place)) ⌝ }
+    ensures { λ r. ⌜ Evaluated (termValueAt (now (words .entry)) (fiveNumbers (now (place .entry))) low high (now (residues .entry)) (now (atoms .entry)))
         (now (tree .entry)) r ⌝ }
 {
     let i = tree.len() - 3;
@@ -372,9 +372,9 @@ pub fn value(
     residues: &[u64],
     atoms: &[u64],
 ) -> Tri
-    requires { ⌜ (checked (Query.readTree (now tree)) ≡ Good) × Inside (now words) (numbersIn (now place)) ⌝ }
+    requires { ⌜ (checked (Query.readTree (now tree)) ≡ Good) × Inside (now words) (fiveNumbers (now place)) ⌝ }
     ensures { λ r. ⌜ r ≡ Query.treeValue
-        (termValueAt (now (words .entry)) (numbersIn (now (place .entry))) low high (now (residues .entry)) (now (atoms .entry))) (now (tree .entry)) ⌝ }
+        (termValueAt (now (words .entry)) (fiveNumbers (now (place .entry))) low high (now (residues .entry)) (now (atoms .entry))) (now (tree .entry)) ⌝ }
 {
     let p = evaluate(tree, words, place, low, high, residues, atoms);
     p.value

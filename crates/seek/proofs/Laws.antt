@@ -270,9 +270,9 @@ atoms-branch (suc k) l t =
     let e : eqb (kind (words (suc k) (t .0))) 5 ≡ false = ne-eqb (kind (words (suc k) (t .0))) 5 (λ q. omega (arith, words-kind (suc k) l (t .0))) in
     rw (e, zero-add) (sum-bind isAtom (flat k) (atomCount k) (atoms-branch k (omega arith)) (t .1))
 
-pub atoms-stored : (m : Machine) → atomRecords (records m) ≡ stored m
+pub atomRecords-stored : (m : Machine) → atomRecords (records m) ≡ stored m
 unfolding atomRecords
-atoms-stored m = sum-bind isAtom (flat 4) (atomCount 4) (atoms-branch 4 (omega arith)) m
+atomRecords-stored m = sum-bind isAtom (flat 4) (atomCount 4) (atoms-branch 4 (omega arith)) m
 
 -- ---- the words of a good store
 
@@ -288,7 +288,7 @@ module _ (w : List ℕ) (g : Good w) where
   whole-records = rw (records-count w (held w) g) (sym (records-read w (held w) g))
 
   pub whole-atoms : atomRecords (recordsIn 0 (length (records (held w))) w) ≡ stored (held w)
-  whole-atoms = rw whole-records (atoms-stored (held w))
+  whole-atoms = rw whole-records (atomRecords-stored (held w))
 
   -- those of the branch at a position
   module _ (d j : ℕ) (pos : List ℕ) (ts : List (Branch (up d j))) (start stop : ℕ) (whole : records (held w) ≡ bind (flat (up d j)) ts) (s : Stands d j pos 0 ts start stop) where

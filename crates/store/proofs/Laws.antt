@@ -19,13 +19,13 @@ use Rattle.machine.specs.declared.Found as Found
 use Rattle.machine.specs.declared.LookedUp as LookedUp
 use Rattle.laws.specs.Ordered.{flats-group}
 use Rattle.seek.specs.Seek.{atomRecords}
-use Rattle.seek.proofs.Laws.{atoms-stored}
+use Rattle.seek.proofs.Laws.{atomRecords-stored}
 use Rattle.store.specs.Store.{checkedBy}
 use Rattle.store.specs.declared.Checked.the-variants.{Good, Refused}
 
 -- records in order have as many atoms as the machine that they group to
 pub atoms-grouped : (rs : List Words) → inOrder 0 rs ≡ true → atomRecords rs ≡ stored (group 4 rs)
-atoms-grouped rs o = ap atomRecords (sym (flats-group rs o)) ∙ atoms-stored (group 4 rs)
+atoms-grouped rs o = ap atomRecords (sym (flats-group rs o)) ∙ atomRecords-stored (group 4 rs)
 
 -- ---- a good store
 

@@ -62,7 +62,7 @@ module _ {c : Checked.Checked} {r : Refusal} (w : List ℕ) (h : c ≡ checkedBy
 
 -- ---- on a good store
 
-pub looked-up : (w : List ℕ) (serial : ℕ) (location : Optional) (x : List ℕ) → Good w → x ≡ Level.answer serial location (held w) → x ≡ lookupRun w serial location
+pub looked-up : (w : List ℕ) (serial : ℕ) (location : Optional) (x : List ℕ) → Good w → x ≡ Level.lookupNumbers serial location (held w) → x ≡ lookupRun w serial location
 unfolding lookupRun
 looked-up w serial location x g e = rw g e
 

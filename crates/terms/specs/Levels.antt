@@ -50,8 +50,8 @@ narrow True Undecided = True
 narrow Undecided b = b
 
 -- five record numbers, from the model's down
-abbrev pub numbersIn : List ℕ → RecordNumbers
-numbersIn l = record { model = getD l 0 0; chain = getD l 1 0; residue = getD l 2 0; conformer = getD l 3 0; atom = getD l 4 0 }
+abbrev pub fiveNumbers : List ℕ → RecordNumbers
+fiveNumbers l = record { model = getD l 0 0; chain = getD l 1 0; residue = getD l 2 0; conformer = getD l 3 0; atom = getD l 4 0 }
 
 -- the five records stand in the words
 pub record Inside (w : List ℕ) (at : RecordNumbers) : Type 0 where

@@ -31,7 +31,7 @@ use Rattle.store.specs.declared.Checked as Checked
 use Rattle.search.specs.Nodes.{checked}
 use Rattle.search.proofs.Laws.{tree-then, tree-refused}
 use Rattle.search.specs.declared.CheckedTree as CheckedTree
-use Rattle.terms.specs.Levels.{numbersIn, Inside}
+use Rattle.terms.specs.Levels.{fiveNumbers, Inside}
 use Rattle.descent.specs.Descent.{five, start, UpTo, valueBy, Sure, Turned}
 use Rattle.descent.specs.declared.State.{State}
 use Rattle.descent.proofs.Sites.{enteredAt, up-entered, up-next, five-is, entered-five}
@@ -81,8 +81,8 @@ module _ (w t residues atoms : List ℕ) (low end : ℕ) (hits : List (List ℕ)
 
     -- the record is the last of its kind that was seen
     module _ (l : List ℕ) (e : length l ≡ 5) (l′ : List ℕ) (set-is : l′ ≡ set l (k - 1) n) where
-      pub walk-entered : numbersIn l ≡ at → numbersIn l′ ≡ enteredAt k n at
-      walk-entered q = rw (set-is, ← q) (ap (λ (x : List ℕ). numbersIn (set x (k - 1) n)) (five-is l e) ∙ entered-five k n (numbersIn l) least most)
+      pub walk-entered : fiveNumbers l ≡ at → fiveNumbers l′ ≡ enteredAt k n at
+      walk-entered q = rw (set-is, ← q) (ap (λ (x : List ℕ). fiveNumbers (set x (k - 1) n)) (five-is l e) ∙ entered-five k n (fiveNumbers l) least most)
 
       pub walk-five : length l′ ≡ 5
       walk-five = ap length set-is ∙ length-set l (k - 1) n ∙ e

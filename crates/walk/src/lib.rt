@@ -14,7 +14,7 @@ ghost use Rattle.machine.specs.Answer.{foundNumbers};
 ghost use Rattle.machine.specs.Find.{hitsIn, findRun};
 ghost use Rattle.moves.specs.Over.{over};
 ghost use Rattle.seek.specs.Seek.{held};
-ghost use Rattle.terms.specs.Levels.{numbersIn};
+ghost use Rattle.terms.specs.Levels.{fiveNumbers};
 ghost use Rattle.descent.specs.Descent.{five};
 ghost use Rattle.walk.specs.Walk.{foundIn, wrote, Ready, Asked};
 
@@ -64,7 +64,7 @@ pub fn count_in(
 // "A hit is five words: the record numbers of model, chain, residue, conformer, atom."
 fn put(out: &mut [u64], hit: u64, at: &[u64; 5])
     requires { ⌜ hit * 5 + 5 ≤ length (now out) ⌝ }
-    ensures { λ _. ⌜ now (out .exit) ≡ over (hit * 5) (five (numbersIn (now (at .entry)))) (now (out .entry)) ⌝ }
+    ensures { λ _. ⌜ now (out .exit) ≡ over (hit * 5) (five (fiveNumbers (now (at .entry)))) (now (out .entry)) ⌝ }
 {
     let word = hit as usize * 5;
     out[word] = at[0];

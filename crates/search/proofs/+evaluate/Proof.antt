@@ -9,7 +9,7 @@ use Rattle.machine.specs.declared.Tri.{Tri}
 use Rattle.machine.specs.declared.Term.{Term}
 use Rattle.search.specs.declared.Sort.the-variants as Sort
 use Rattle.search.proofs.Nodes.{has-term}
-use Rattle.terms.specs.Levels.{termValueAt, numbersIn}
+use Rattle.terms.specs.Levels.{termValueAt, fiveNumbers}
 use Rattle.search.proofs.Postfix.{taken, on-sort, shorter, three, single, constant, under-not, negated, under-right, right-start, under-left, joined}
 use Prim.Native.Nat.{ℕ, _-_, _<_}
 use borrow.Fn.Kinds.{In}
@@ -123,7 +123,7 @@ evaluate-evaluate-requires : (t : ℕ) → evaluate-lts.Need-evaluate-requires (
 evaluate-evaluate-requires t c κs =
     let s = c .before .before .before .before .before .before .before .before .before .before in
     let a = s .args in
-    let v : Term → Tri = termValueAt (a .words .now) (numbersIn (a .place .now)) (a .low) (a .high) (a .residues .now) (a .atoms .now) in
+    let v : Term → Tri = termValueAt (a .words .now) (fiveNumbers (a .place .now)) (a .low) (a .high) (a .residues .now) (a .atoms .now) in
     let o = s .pre .1 .0 in
     let l = three v (a .tree .now) o in
     let m = s .pre .0 in
@@ -147,7 +147,7 @@ evaluate-evaluate-requires-2 : (t : ℕ) → evaluate-lts.Need-evaluate-requires
 evaluate-evaluate-requires-2 t c κs =
     let s = c .before .before .before .before .before .before .before .before .before .before .before in
     let a = s .args in
-    let v : Term → Tri = termValueAt (a .words .now) (numbersIn (a .place .now)) (a .low) (a .high) (a .residues .now) (a .atoms .now) in
+    let v : Term → Tri = termValueAt (a .words .now) (fiveNumbers (a .place .now)) (a .low) (a .high) (a .residues .now) (a .atoms .now) in
     let o = s .pre .1 .0 in
     let l = three v (a .tree .now) o in
     let m = s .pre .0 in
@@ -157,7 +157,7 @@ evaluate-slice-aggregate-evaluate-3 : (t : ℕ) → evaluate-lts.Need-slice-aggr
 evaluate-slice-aggregate-evaluate-3 t c =
     let s = c .before .before .before .before .before .before .before .before .before .before .before .before .before in
     let a = s .args in
-    let v : Term → Tri = termValueAt (a .words .now) (numbersIn (a .place .now)) (a .low) (a .high) (a .residues .now) (a .atoms .now) in
+    let v : Term → Tri = termValueAt (a .words .now) (fiveNumbers (a .place .now)) (a .low) (a .high) (a .residues .now) (a .atoms .now) in
     let o = s .pre .1 .0 in
     let l = three v (a .tree .now) o in
     let r = c .before .evaluate2 in
@@ -172,7 +172,7 @@ evaluate-evaluate-requires-3 : (t : ℕ) → evaluate-lts.Need-evaluate-requires
 evaluate-evaluate-requires-3 t c κs =
     let s = c .before .before .before .before .before .before .before .before .before .before .before .before .before .before in
     let a = s .args in
-    let v : Term → Tri = termValueAt (a .words .now) (numbersIn (a .place .now)) (a .low) (a .high) (a .residues .now) (a .atoms .now) in
+    let v : Term → Tri = termValueAt (a .words .now) (fiveNumbers (a .place .now)) (a .low) (a .high) (a .residues .now) (a .atoms .now) in
     let o = s .pre .1 .0 in
     let l = three v (a .tree .now) o in
     let m = s .pre .0 in
@@ -188,7 +188,7 @@ evaluate-returns : (t : ℕ) → evaluate-lts.Need-returns (claims t) (evaluate-
 evaluate-returns t c =
     let s = c .before .before .before .before .before .before .before .before .before .before .before .before .before in
     let a = s .args in
-    let v : Term → Tri = termValueAt (a .words .now) (numbersIn (a .place .now)) (a .low) (a .high) (a .residues .now) (a .atoms .now) in
+    let v : Term → Tri = termValueAt (a .words .now) (fiveNumbers (a .place .now)) (a .low) (a .high) (a .residues .now) (a .atoms .now) in
     let o = s .pre .1 .0 in
     let l = three v (a .tree .now) o in
     single v (a .tree .now) o _ refl (sym (c .before .before .term-of .ensures)) (rw (c .before .numbers .ensures) at (c .term-value .ensures))
@@ -197,7 +197,7 @@ evaluate-returns-2 : (t : ℕ) → evaluate-lts.Need-returns-2 (claims t) (evalu
 evaluate-returns-2 t c =
     let s = c .before .before .before .before .before .before .before .before .before .before in
     let a = s .args in
-    let v : Term → Tri = termValueAt (a .words .now) (numbersIn (a .place .now)) (a .low) (a .high) (a .residues .now) (a .atoms .now) in
+    let v : Term → Tri = termValueAt (a .words .now) (fiveNumbers (a .place .now)) (a .low) (a .high) (a .residues .now) (a .atoms .now) in
     let o = s .pre .1 .0 in
     let l = three v (a .tree .now) o in
     rw (c .constant .ensures) (constant v (a .tree .now) o _ refl (on-sort (a .tree .now) _ (Sort.Known _) (c .before .before .before .before .sort-of .ensures) (c .before .before .sort .given .1)))
@@ -206,7 +206,7 @@ evaluate-returns-3 : (t : ℕ) → evaluate-lts.Need-returns-3 (claims t) (evalu
 evaluate-returns-3 t c =
     let s = c .before .before .before .before .before .before .before .before .before in
     let a = s .args in
-    let v : Term → Tri = termValueAt (a .words .now) (numbersIn (a .place .now)) (a .low) (a .high) (a .residues .now) (a .atoms .now) in
+    let v : Term → Tri = termValueAt (a .words .now) (fiveNumbers (a .place .now)) (a .low) (a .high) (a .residues .now) (a .atoms .now) in
     let o = s .pre .1 .0 in
     let l = three v (a .tree .now) o in
     rw (c .constant2 .ensures) (constant v (a .tree .now) o _ refl (on-sort (a .tree .now) _ (Sort.Refused) (c .before .before .before .sort-of .ensures) (c .before .enum-told2 .given .1)))
@@ -215,7 +215,7 @@ evaluate-returns-4 : (t : ℕ) → evaluate-lts.Need-returns-4 (claims t) (evalu
 evaluate-returns-4 t c =
     let s = c .before .before .before .before .before .before .before .before .before .before .before .before in
     let a = s .args in
-    let v : Term → Tri = termValueAt (a .words .now) (numbersIn (a .place .now)) (a .low) (a .high) (a .residues .now) (a .atoms .now) in
+    let v : Term → Tri = termValueAt (a .words .now) (fiveNumbers (a .place .now)) (a .low) (a .high) (a .residues .now) (a .atoms .now) in
     let o = s .pre .1 .0 in
     let l = three v (a .tree .now) o in
     rw (c .negation .ensures) (negated v (a .tree .now) o _ refl (c .before .evaluate .result) (on-sort (a .tree .now) _ (Sort.Not) (c .before .before .before .before .before .before .sort-of .ensures) (c .before .before .before .before .enum-told3 .given .1)) (rw (c .before .before .anew .ensures) at (c .before .evaluate .ensures)) refl)
@@ -224,7 +224,7 @@ evaluate-returns-5 : (t : ℕ) → evaluate-lts.Need-returns-5 (claims t) (evalu
 evaluate-returns-5 t c =
     let s = c .before .before .before .before .before .before .before .before .before .before .before .before .before .before .before .before in
     let a = s .args in
-    let v : Term → Tri = termValueAt (a .words .now) (numbersIn (a .place .now)) (a .low) (a .high) (a .residues .now) (a .atoms .now) in
+    let v : Term → Tri = termValueAt (a .words .now) (fiveNumbers (a .place .now)) (a .low) (a .high) (a .residues .now) (a .atoms .now) in
     let o = s .pre .1 .0 in
     let l = three v (a .tree .now) o in
     let r = c .before .before .before .before .evaluate2 in

@@ -1,7 +1,7 @@
 -- `search::value` meets its contract: the whole tree is one operand. Assumes nothing.
 use Rattle.machine.specs.declared.Tri.{Tri}
 use Rattle.machine.specs.declared.Term.{Term}
-use Rattle.terms.specs.Levels.{termValueAt, numbersIn}
+use Rattle.terms.specs.Levels.{termValueAt, fiveNumbers}
 use Rattle.search.proofs.Postfix.{tree-operand, tree-value}
 use Rattle.search.proofs.value.Statement.{statement}
 use Rattle.search.proofs.value.Tie as tie
@@ -10,14 +10,14 @@ evaluate-requires : tie.Need-evaluate-requires
 evaluate-requires c κs =
     let s = c .before .before .before .before in
     let a = s .args in
-    let v : Term → Tri = termValueAt (a .words .now) (numbersIn (a .place .now)) (a .low) (a .high) (a .residues .now) (a .atoms .now) in
+    let v : Term → Tri = termValueAt (a .words .now) (fiveNumbers (a .place .now)) (a .low) (a .high) (a .residues .now) (a .atoms .now) in
     (tree-operand v (a .tree .now) (s .pre .0), s .pre .1)
 
 returns : tie.Need-returns
 returns c =
     let s = c .before .before .before .before .before in
     let a = s .args in
-    let v : Term → Tri = termValueAt (a .words .now) (numbersIn (a .place .now)) (a .low) (a .high) (a .residues .now) (a .atoms .now) in
+    let v : Term → Tri = termValueAt (a .words .now) (fiveNumbers (a .place .now)) (a .low) (a .high) (a .residues .now) (a .atoms .now) in
     tree-value v (a .tree .now) (s .pre .0) (c .evaluate .result) (c .evaluate .ensures)
 
 pub value-spec : {M : Type 1} → statement M

@@ -4,7 +4,7 @@ use Prim.Native.Nat.{_-_}
 use native.Mathlib.Omega.{arith}
 use mathlib.Core.Path.{_≡_, refl}
 use lib.ListN.{length}
-use Rattle.terms.specs.Levels.{numbersIn}
+use Rattle.terms.specs.Levels.{fiveNumbers}
 use Rattle.walk.specs.Walk.{foundIn}
 use Rattle.walk.proofs.Laws.{Walking, walk-start, walk-end, least, most, walk-entered, walk-five, walk-deep, walk-inside, walk-sure, walk-hit, walk-miss}
 use Rattle.walk.proofs.count_in.Statement.{statement}
@@ -12,7 +12,7 @@ use Rattle.walk.proofs.count_in.Tie as tie
 
 abbrev Inv-loop : tie.InvT-loop
 Inv-loop store from end tree low depth residues atoms lowest at₀ live₀ sure₀ found₀ n₀ at live sure found n =
-    Walking store tree residues atoms low end (foundIn store from end tree low depth (numbersIn at₀) residues atoms) n live sure (numbersIn at) found × (length at ≡ 5)
+    Walking store tree residues atoms low end (foundIn store from end tree low depth (fiveNumbers at₀) residues atoms) n live sure (fiveNumbers at) found × (length at ≡ 5)
 
 abbrev μ-loop : tie.MeasureT-loop
 μ-loop store from end tree low depth residues atoms lowest at₀ live₀ sure₀ found₀ n₀ at live sure found n = end - n

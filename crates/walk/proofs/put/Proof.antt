@@ -3,7 +3,7 @@ use borrow.Author.Needs.{needs}
 use Prim.Native.Nat.{_*_}
 use native.Mathlib.Omega.{arith}
 use lib.ListN.{length-set}
-use Rattle.terms.specs.Levels.{numbersIn}
+use Rattle.terms.specs.Levels.{fiveNumbers}
 use Rattle.walk.proofs.Laws.{put-law}
 use Rattle.walk.proofs.put.Statement.{statement}
 use Rattle.walk.proofs.put.Tie as tie
@@ -72,7 +72,7 @@ same-length : tie.Need-same-length
 same-length c = search needs
 
 returns : tie.Need-returns
-returns c = let s = c .before .before .before .before .before in put-law (s .args .out .now) (s .args .hit * 5) (numbersIn (s .args .at .now)) (s .pre)
+returns c = let s = c .before .before .before .before .before in put-law (s .args .out .now) (s .args .hit * 5) (fiveNumbers (s .args .at .now)) (s .pre)
 
 pub put-spec : {M : Type 1} → statement M
 put-spec =
