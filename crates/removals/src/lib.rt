@@ -84,7 +84,8 @@ fn first_named(
     other: &[u8],
 ) -> usize
     requires { ⌜ Within from end (now store) ⌝ }
-    ensures { λ r. ⌜ r ≡ from + countBefore (sought kind (idOf serial (now (name .entry)) flag (now (other .entry)))) (recordsIn from end (now (store .entry))) ⌝ }
+    ensures { λ r. ⌜ r ≡ from + countBefore (sought kind (idOf serial (now (name .entry)) flag (now (other .entry))))
+        (recordsIn from end (now (store .entry))) ⌝ }
 {
     let mut at: usize = from;
     while at < end {
