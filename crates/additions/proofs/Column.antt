@@ -10,25 +10,25 @@ use native.Mathlib.Omega.{arith}
 use lib.ListN.{length, take, drop, length-append, length-drop, take-append-drop}
 use lib.Seq.{take-at, drop-at, length-take-le}
 use lib.Dec.{eqb}
-use Rattle.machine.specs.Lists.{bind}
+use Rattle.machine.specs.Lists.{concatMap}
 use Rattle.machine.specs.Record.{Fields, Words, words, kind}
 use Rattle.machine.specs.Store.{Branch, Machine, flat, chunks}
 use Rattle.machine.specs.Edit.{Addition, Prepare, Which, first, last, pick, upsert, newAtom, intoChains, replaceAt}
-use Rattle.laws.specs.Lists.{All-map, bind-append}
+use Rattle.laws.specs.Lists.{All-map, concatMap-append}
 use Rattle.laws.specs.Grouped.{flats-kinds, chunks-length}
 use Rattle.laws.specs.Scan.{ends-branches}
 use Rattle.laws.specs.Places.{Around, Spot}
 use Rattle.seek.specs.Seek.{recordsIn, descendants}
 use Rattle.seek.proofs.Below.{chunks-take, descendants-over}
-use Rattle.places.specs.Pick.{Key, marks, pickSpan, keysOf, spotIn}
-use Rattle.places.specs.Place.{column}
-use Rattle.places.proofs.Picks.{chosen, pick-over, unmarked}
+use Rattle.insertion.specs.Pick.{Key, marks, pickSpan, keysOf, spotIn}
+use Rattle.insertion.specs.Cursor.{column}
+use Rattle.insertion.proofs.Picks.{chosen, pick-over, unmarked}
 
 -- records of kind h are marked as p says of their fields, and none of a higher kind is
 module _ (h k : ℕ) (level : h + k ≡ 4) (mark : Words → Bool) (other : (r : Words) → h < kind r → mark r ≡ false)
     (p : Fields (suc k) → Bool) (finds : (f : Fields (suc k)) → mark (words (suc k) f) ≡ p f) where
   abbrev all : List (Branch (suc k)) → List Words
-  all ts = bind (flat (suc k)) ts
+  all ts = concatMap (flat (suc k)) ts
 
   -- the record of the branch that is picked is the record that is picked
   abbrev Same : Which → List (Branch (suc k)) → Option ℕ → Type 0
@@ -36,11 +36,11 @@ module _ (h k : ℕ) (level : h + k ≡ 4) (mark : Words → Bool) (other : (r :
   Same w ts (some i) = (t : Branch (suc k)) × (a : Around i ts t) × (pick w mark (all ts) ≡ some (length (all (a .before))))
 
   pick-first : (w : Which) (b : Bool) (t : Branch (suc k)) (ts : List (Branch (suc k))) → p (t .0) ≡ b
-      → pick w mark (all (t ∷ ts)) ≡ chosen w b (Option·map (λ i. length (bind (flat k) (t .1)) + i) (pick w mark (all ts)))
+      → pick w mark (all (t ∷ ts)) ≡ chosen w b (Option·map (λ i. length (concatMap (flat k) (t .1)) + i) (pick w mark (all ts)))
   unfolding flat
-  pick-first w b t ts e = go w ∙ rw (finds (t .0), e, pick-over mark w (bind (flat k) (t .1)) (all ts) (All-map other (bind (flat k) (t .1)) (flats-kinds h k (omega arith) (t .1))))
+  pick-first w b t ts e = go w ∙ rw (finds (t .0), e, pick-over mark w (concatMap (flat k) (t .1)) (all ts) (All-map other (concatMap (flat k) (t .1)) (flats-kinds h k (omega arith) (t .1))))
     where
-      go : (v : Which) → pick v mark (words (suc k) (t .0) ∷ (bind (flat k) (t .1) ++ all ts)) ≡ chosen v (mark (words (suc k) (t .0))) (pick v mark (bind (flat k) (t .1) ++ all ts))
+      go : (v : Which) → pick v mark (words (suc k) (t .0) ∷ (concatMap (flat k) (t .1) ++ all ts)) ≡ chosen v (mark (words (suc k) (t .0))) (pick v mark (concatMap (flat k) (t .1) ++ all ts))
       go first = refl
       go last = refl
 
@@ -56,9 +56,9 @@ module _ (h k : ℕ) (level : h + k ≡ 4) (mark : Words → Bool) (other : (r :
         is = λ f. ap (λ (l : List (Branch (suc k))). t ∷ l) (a .is f);
       }
 
-  further : (t : Branch (suc k)) (ts : List (Branch (suc k))) → suc (length (bind (flat k) (t .1)) + length (all ts)) ≡ length (all (t ∷ ts))
+  further : (t : Branch (suc k)) (ts : List (Branch (suc k))) → suc (length (concatMap (flat k) (t .1)) + length (all ts)) ≡ length (all (t ∷ ts))
   unfolding flat
-  further t ts = ap suc (sym (length-append (bind (flat k) (t .1)) (all ts)))
+  further t ts = ap suc (sym (length-append (concatMap (flat k) (t .1)) (all ts)))
 
   pick-step : (w : Which) (b : Bool) (o : Option ℕ) (t : Branch (suc k)) (ts : List (Branch (suc k))) → p (t .0) ≡ b → Same w ts o → Same w (t ∷ ts) (chosen w b o)
   pick-step first true o t ts e s = (t, here t ts, pick-first first true t ts e)
@@ -78,25 +78,25 @@ module _ (h k : ℕ) (level : h + k ≡ 4) (mark : Words → Bool) (other : (r :
 
 -- a branch's children stand right after its record, up to the next branch's
 module _ (h k : ℕ) (level : h + k ≡ 4) (w : List ℕ) (from end i : ℕ) (ts : List (Branch (suc k))) (t : Branch (suc k)) (a : Around i ts t)
-    (low : 1 ≤ h) (order : from ≤ end) (records : recordsIn from end w ≡ bind (flat (suc k)) ts) where
+    (low : 1 ≤ h) (order : from ≤ end) (records : recordsIn from end w ≡ concatMap (flat (suc k)) ts) where
   abbrev lead : List Words
-  lead = bind (flat (suc k)) (a .before) ++ (words (suc k) (t .0) ∷ [])
+  lead = concatMap (flat (suc k)) (a .before) ++ (words (suc k) (t .0) ∷ [])
 
   abbrev kids : List Words
-  kids = bind (flat k) (t .1)
+  kids = concatMap (flat k) (t .1)
 
   abbrev rest : List Words
-  rest = bind (flat (suc k)) (a .after)
+  rest = concatMap (flat (suc k)) (a .after)
 
   parts : recordsIn from end w ≡ (lead ++ kids) ++ rest
   unfolding flat
-  parts = records ∙ ap (bind (flat (suc k))) (a .was) ∙ bind-append (flat (suc k)) (a .before) (t ∷ a .after) ∙ simp append-assoc
+  parts = records ∙ ap (concatMap (flat (suc k))) (a .was) ∙ concatMap-append (flat (suc k)) (a .before) (t ∷ a .after) ∙ simp append-assoc
 
-  lead-length : length lead ≡ suc (length (bind (flat (suc k)) (a .before)))
+  lead-length : length lead ≡ suc (length (concatMap (flat (suc k)) (a .before)))
   lead-length = rw length-append (omega arith)
 
   abbrev start : ℕ
-  start = from + length (bind (flat (suc k)) (a .before))
+  start = from + length (concatMap (flat (suc k)) (a .before))
 
   abbrev stop : ℕ
   stop = suc start + length kids
@@ -105,7 +105,7 @@ module _ (h k : ℕ) (level : h + k ≡ 4) (w : List ℕ) (from end i : ℕ) (ts
   total =
       omega (arith, ap length parts, length-append (lead ++ kids) rest, length-append lead kids, length-drop from (chunks end w), chunks-length end w)
 
-  after-start : drop (suc (length (bind (flat (suc k)) (a .before)))) (recordsIn from end w) ≡ kids ++ rest
+  after-start : drop (suc (length (concatMap (flat (suc k)) (a .before)))) (recordsIn from end w) ≡ kids ++ rest
   after-start = rw (parts, append-assoc lead kids rest) (drop-at lead (kids ++ rest) _ lead-length)
 
   kids-descendants : descendants h (kids ++ rest) ≡ length kids
@@ -120,7 +120,7 @@ module _ (h k : ℕ) (level : h + k ≡ 4) (w : List ℕ) (from end i : ℕ) (ts
       let whole : chunks end w ≡ ((x ++ lead) ++ kids) ++ rest = sym (take-append-drop from (chunks end w)) ∙ ap (λ (l : List Words). x ++ l) parts ∙ simp append-assoc in
       rw (chunks-take stop end w (omega (arith, total, lead-length)), whole, take-at ((x ++ lead) ++ kids) rest stop g) (drop-at (x ++ lead) kids (start + 1) f)
 
-  pick-there : (key : Key) → pick (key .which) (marks h key) (recordsIn from end w) ≡ some (length (bind (flat (suc k)) (a .before)))
+  pick-there : (key : Key) → pick (key .which) (marks h key) (recordsIn from end w) ≡ some (length (concatMap (flat (suc k)) (a .before)))
       → pickSpan h key from (recordsIn from end w) ≡ some (start, stop)
   pick-there key e = rw (e, after-start, kids-descendants)
 
@@ -130,38 +130,38 @@ module _ (h k : ℕ) (level : h + k ≡ 4) (w : List ℕ) (from end i : ℕ) (ts
 pub record Ins (k : ℕ) (ts us : List (Branch k)) (n at : ℕ) (new : List Words) : Type 0 where
   pub pre : List Words
   pub post : List Words
-  pub was : bind (flat k) ts ≡ pre ++ post
-  pub is : bind (flat k) us ≡ pre ++ (new ++ post)
+  pub was : concatMap (flat k) ts ≡ pre ++ post
+  pub is : concatMap (flat k) us ≡ pre ++ (new ++ post)
   pub number : at ≡ n + length pre
 
 -- f puts records in where the keys lead: those of the column that do not stand already
 pub record Puts (h k : ℕ) (f : List (Branch k) → List (Branch k)) (keys : List Key) (col : List Words) : Type 0 where
-  pub alone : bind (flat k) (f []) ≡ col
-  pub among : (w : List ℕ) (from end : ℕ) (ts : List (Branch k)) → from ≤ end → recordsIn from end w ≡ bind (flat k) ts
+  pub alone : concatMap (flat k) (f []) ≡ col
+  pub among : (w : List ℕ) (from end : ℕ) (ts : List (Branch k)) → from ≤ end → recordsIn from end w ≡ concatMap (flat k) ts
       → Ins k ts (f ts) from (spotIn h keys from end w .0) (drop (spotIn h keys from end w .1) col)
 
 -- appended, after all of them
-ins-end : (k : ℕ) (w : List ℕ) (from end : ℕ) (ts : List (Branch k)) (t : Branch k) → from ≤ end → recordsIn from end w ≡ bind (flat k) ts → Ins k ts (ts ++ (t ∷ [])) from end (flat k t)
+ins-end : (k : ℕ) (w : List ℕ) (from end : ℕ) (ts : List (Branch k)) (t : Branch k) → from ≤ end → recordsIn from end w ≡ concatMap (flat k) ts → Ins k ts (ts ++ (t ∷ [])) from end (flat k t)
 ins-end k w from end ts t order e =
     record {
-      pre = bind (flat k) ts;
+      pre = concatMap (flat k) ts;
       post = [];
       was = sym (append-nil _);
-      is = bind-append (flat k) ts (t ∷ []);
+      is = concatMap-append (flat k) ts (t ∷ []);
       number = omega (arith, ap length e, length-drop from (chunks end w), chunks-length end w);
     }
 
 -- among the children of one of them
 ins-below : (k i : ℕ) (ts us : List (Branch (suc k))) (t : Branch (suc k)) (cs : List (Branch k)) (n at : ℕ) (new : List Words) (a : Around i ts t) → us ≡ a .before ++ ((t .0, cs) ∷ a .after)
-    → Ins k (t .1) cs (n + length (bind (flat (suc k)) (a .before)) + 1) at new → Ins (suc k) ts us n at new
+    → Ins k (t .1) cs (n + length (concatMap (flat (suc k)) (a .before)) + 1) at new → Ins (suc k) ts us n at new
 unfolding flat
 ins-below k i ts us t cs n at new a e s =
-    let lead = bind (flat (suc k)) (a .before) in
+    let lead = concatMap (flat (suc k)) (a .before) in
     record {
       pre = lead ++ (words (suc k) (t .0) ∷ s .pre);
-      post = s .post ++ bind (flat (suc k)) (a .after);
-      was = ap (bind (flat (suc k))) (a .was) ∙ bind-append (flat (suc k)) (a .before) (t ∷ a .after) ∙ rw (s .was) (simp append-assoc);
-      is = ap (bind (flat (suc k))) e ∙ bind-append (flat (suc k)) (a .before) ((t .0, cs) ∷ a .after) ∙ rw (s .is) (simp append-assoc);
+      post = s .post ++ concatMap (flat (suc k)) (a .after);
+      was = ap (concatMap (flat (suc k))) (a .was) ∙ concatMap-append (flat (suc k)) (a .before) (t ∷ a .after) ∙ rw (s .was) (simp append-assoc);
+      is = ap (concatMap (flat (suc k))) e ∙ concatMap-append (flat (suc k)) (a .before) ((t .0, cs) ∷ a .after) ∙ rw (s .is) (simp append-assoc);
       number = omega (arith, s .number, length-append lead (words (suc k) (t .0) ∷ s .pre));
     }
 
@@ -176,7 +176,7 @@ module _ (h k : ℕ) (level : h + k ≡ 4) (low : 1 ≤ h) (key : Key) (p : Fiel
   abbrev into : List (Branch (suc k)) → List (Branch (suc k))
   into ts = upsert k (key .which) p new f ts
 
-  level-among : (w : List ℕ) (from end : ℕ) (ts : List (Branch (suc k))) → from ≤ end → recordsIn from end w ≡ bind (flat (suc k)) ts
+  level-among : (w : List ℕ) (from end : ℕ) (ts : List (Branch (suc k))) → from ≤ end → recordsIn from end w ≡ concatMap (flat (suc k)) ts
       → (o : Option ℕ) → pick (key .which) (λ t. p (t .0)) ts ≡ o → Same h k level (marks h key) (unmarked h key) p finds (key .which) ts o
       → Ins (suc k) ts (into ts) from (spotIn h (key ∷ keys) from end w .0) (drop (spotIn h (key ∷ keys) from end w .1) (words (suc k) new ∷ col))
   unfolding upsert spotIn flat
@@ -186,7 +186,7 @@ module _ (h k : ℕ) (level : h + k ≡ 4) (low : 1 ≤ h) (key : Key) (p : Fiel
   level-among w from end ts order e (some i) q s =
       let t = s .0 in
       let a = s .1 in
-      let r : pick (key .which) (marks h key) (recordsIn from end w) ≡ some (length (bind (flat (suc k)) (a .before))) = rw e (s .2) in
+      let r : pick (key .which) (marks h key) (recordsIn from end w) ≡ some (length (concatMap (flat (suc k)) (a .before))) = rw e (s .2) in
       let span = pick-there h k level w from end i ts t a low order e key r in
       let kids = kids-below h k level w from end i ts t a low order e in
       rw (q, span) (ins-below k i ts _ t (f (t .1)) from _ _ a (a .is (λ u. (u .0, f (u .1)) ∷ [])) (puts .among w _ _ (t .1) (omega arith) kids))
@@ -199,7 +199,7 @@ module _ (h k : ℕ) (level : h + k ≡ 4) (low : 1 ≤ h) (key : Key) (p : Fiel
         among = λ w from end ts order e. level-among w from end ts order e _ refl (picked h k level (marks h key) (unmarked h key) p finds (key .which) ts);
       }
     where
-      go : (v : Which) → bind (flat (suc k)) (upsert k v p new f []) ≡ words (suc k) new ∷ col
+      go : (v : Which) → concatMap (flat (suc k)) (upsert k v p new f []) ≡ words (suc k) new ∷ col
       go first = rw (append-nil, puts .alone)
       go last = rw (append-nil, puts .alone)
 
@@ -227,6 +227,6 @@ ins-machine i m t cs n at new s e r =
     }
 
 -- a model after all others
-pub ins-model : (m : Machine) (t : Branch 4) → Ins 4 m (m ++ (t ∷ [])) 0 (length (bind (flat 4) m)) (flat 4 t)
+pub ins-model : (m : Machine) (t : Branch 4) → Ins 4 m (m ++ (t ∷ [])) 0 (length (concatMap (flat 4) m)) (flat 4 t)
 ins-model m t =
-    record { pre = bind (flat 4) m; post = []; was = sym (append-nil _); is = bind-append (flat 4) m (t ∷ []); number = sym (zero-add _) }
+    record { pre = concatMap (flat 4) m; post = []; was = sym (append-nil _); is = concatMap-append (flat 4) m (t ∷ []); number = sym (zero-add _) }

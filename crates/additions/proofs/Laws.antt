@@ -9,7 +9,7 @@ use lib.ListN.{length, take, drop, set, replicate, length-append, length-take, l
 use lib.Seq.{take-at, drop-at, length-take-le, take-all}
 use lib.Dec.{leb}
 use borrow.Author.Tests.{le-leb, lt-leb}
-use Rattle.machine.specs.Lists.{bind}
+use Rattle.machine.specs.Lists.{concatMap}
 use Rattle.machine.specs.Answer.{Result, ok, refused, editedNumbers}
 use Rattle.machine.specs.Text.{Optional, chainId, insertionCode, conformerName, alternativeLocation, atomName, optional}
 use Rattle.machine.specs.Record.{Words, words, finite, goodValues}
@@ -32,11 +32,11 @@ use Rattle.seek.specs.Seek.{held, Good, Within, recordsIn, isAtom, atomRecords,
 use Rattle.seek.proofs.Below.{recordsIn-cons}
 use Rattle.seek.proofs.Laws.{records-count, atomRecords-stored, at-span, Stands, stands, missing, stands-within, stands-records}
 use Rattle.seek.specs.declared.Span as Span
-use Rattle.places.specs.Place.{Known, Lands, column, Grown, Moves}
-use Rattle.places.specs.Pick.{keysOf, spotIn, foundOf}
-use Rattle.places.specs.declared.Place as Place
-use Rattle.places.specs.declared.Spot as Spot
-use Rattle.places.proofs.Spans.{model-inside, model-span}
+use Rattle.insertion.specs.Cursor.{Valid, Lands, column, Grown, Advances}
+use Rattle.insertion.specs.Pick.{keysOf, spotIn, foundOf}
+use Rattle.insertion.specs.declared.Cursor as Cursor
+use Rattle.insertion.specs.declared.Spot as Spot
+use Rattle.insertion.proofs.Spans.{model-inside, model-span}
 use Rattle.additions.specs.Add.{columnWords, preparedOf, resultOf, named, wordOf, put, intoModel}
 use Rattle.additions.specs.declared.StoredNames as StoredNames
 use Rattle.additions.specs.declared.Word as Word
@@ -283,7 +283,7 @@ module _ (w : List ℕ) (g : Good w) (i start stop : ℕ) (e : span (i ∷ []) (
   pub model-few : stop ≤ 100000
   model-few = omega (arith, model-inside w g i start stop (model-span w g i ∙ e) .high, ap length (records-read w (held w) g), good-count w g)
 
-  chains : recordsIn (start + 1) stop w ≡ bind (flat 3) (there .1)
+  chains : recordsIn (start + 1) stop w ≡ concatMap (flat 3) (there .1)
   unfolding flat
   chains =
       let x = recordsIn-cons w stop start (omega (arith, long)) in
@@ -300,15 +300,15 @@ module _ (w : List ℕ) (g : Good w) (i start stop : ℕ) (e : span (i ∷ []) (
     abbrev after : Machine
     after = replaceAt 0 4 (i ∷ []) ((there .0, intoChains atom (preparedOf n) (there .1)) ∷ []) (held w)
 
-    abbrev place : ℕ × ℕ
-    place = spotIn 2 (keysOf (n .chain) residue code (n .conformer) location) (start + 1) stop w
+    abbrev cursor : ℕ × ℕ
+    cursor = spotIn 2 (keysOf (n .chain) residue code (n .conformer) location) (start + 1) stop w
 
-    put-atom : Ins 4 (held w) after 0 (place .0) (drop (place .1) (newColumn n residue v))
+    put-atom : Ins 4 (held w) after 0 (cursor .0) (drop (cursor .1) (newColumn n residue v))
     put-atom =
         let x = stood .first in
         ins-machine i (held w) there _ (start + 1) _ _ (stood .spot) (omega arith) (puts-chains atom (preparedOf n) .among w (start + 1) stop (there .1) long chains)
 
-    module _ (s : Spot.Spot) (h : foundOf s ≡ place) (lands : Lands start stop (n .chain) w s) (count : ℕ) (c : count ≡ length (records (held w))) where
+    module _ (s : Spot.Spot) (h : foundOf s ≡ cursor) (lands : Lands start stop (n .chain) w s) (count : ℕ) (c : count ≡ length (records (held w))) where
       atom-fits : intoModel (length w) i atom (preparedOf n) (held w) ≡ fits (length w) after
       unfolding intoModel
       atom-fits = rw (stood .there)
@@ -336,7 +336,7 @@ module _ (w : List ℕ) (g : Good w) (i start stop : ℕ) (e : span (i ∷ []) (
           pub atom-done : (editedNumbers (Edited.the-variants.Done 1 0), s′) ≡ outcome
           atom-done = put-done w g after _ _ ins _ atom-fits x (count + 4 - s .depth) s′ d new-length l new-words
 
-          pub atom-moved : (p q : Place.Place) → Known p w → Moves p i start stop (n .chain) residue s q → Known q s′
+          pub atom-moved : (p q : Cursor.Cursor) → Valid p w → Advances p i start stop (n .chain) residue s q → Valid q s′
           atom-moved p q known moves =
               moves w s′ (preparedOf n) (atomOf v (n .name)) refl g known (model-span w g i ∙ e) lands (put-grown w g after _ _ ins x (count + 4 - s .depth) s′ d new-length l new-words)
 

@@ -1,5 +1,5 @@
 // Additions (document 01, "Edits"): a model, and an atom with what is missing above it. The store is known to be good; new records go in
-// by one move of the words behind them. A refusal writes nothing. `places` finds where they go.
+// by one move of the words behind them. A refusal writes nothing. `insertion` finds where they go.
 ghost use mathlib.Core.Path.{_≡_};
 ghost use Prim.Native.Nat.{_+_, _*_, _≤_, _<_};
 ghost use lib.ListN.{length};
@@ -11,15 +11,15 @@ ghost use mathlib.Core.List.{[], _∷_};
 ghost use mathlib.Core.Option.{some};
 ghost use Rattle.machine.specs.Edit.{addition, atomOf, prepare, addModel, addAtom, stepBy};
 ghost use Rattle.seek.specs.Seek.{Good, held, span};
-ghost use Rattle.places.specs.Place.{Known};
+ghost use Rattle.insertion.specs.Cursor.{Valid};
 ghost use Rattle.additions.specs.Add.{named, wordOf, preparedOf, resultOf, columnWords, put, intoModel};
 use elements::Element;
+use insertion::Cursor;
 use machine::Edited;
 use machine::NewAtom;
 use machine::Prepared;
 use machine::Record;
 use machine::Refusal;
-use places::Place;
 use seek::Span;
 
 // ---- the arguments
@@ -181,13 +181,13 @@ pub fn add_model(store: &mut [u64], serial: u64) -> Edited
 // An answer, and where the next addition may go on.
 pub struct Added {
     pub edited: Edited,
-    pub place: Place,
+    pub cursor: Cursor,
 }
 
 // The new records of an atom in the model whose span is given: its names are ready and its values good.
 fn put_atom(
     store: &mut [u64],
-    place: Place,
+    cursor: Cursor,
     model: u64,
     start: usize,
     end: usize,
@@ -200,15 +200,15 @@ fn put_atom(
     values: NewAtom,
 ) -> Added
     requires { ⌜ Good (now store) ⌝ }
-    requires { ⌜ Known place (now store) ⌝ }
+    requires { ⌜ Valid cursor (now store) ⌝ }
     requires { ⌜ span (model ∷ []) (held (now store)) ≡ some (start, end) ⌝ }
-    ensures { λ r. ⌜ Known (r .place) (now (store .exit)) ⌝ }
+    ensures { λ r. ⌜ Valid (r .cursor) (now (store .exit)) ⌝ }
     ensures { λ r. ⌜ (editedNumbers (r .edited), now (store .exit)) ≡ stepBy (now (store .entry)) (intoModel (length (now (store .entry))) model (addition [] residue (optionalOf «code_flag» (now (code .entry))) [] (optionalOf «location_flag» (now (location .entry))) [] values) (preparedOf names)) ⌝ }
 {
     let count = seek::record_count(store);
-    let spot = places::spot_of(
+    let spot = insertion::spot_of(
         store,
-        place,
+        cursor,
         start,
         end,
         names.chain,
@@ -224,22 +224,22 @@ fn put_atom(
     if capacity_of(store) < count + 4 - spot.depth {
         return Added {
             edited: Edited::Refused(Refusal::NoCapacity),
-            place: place,
+            cursor: cursor,
         };
     }
     let column = column_of(names, residue, values);
     put_records(store, at, count, &column[first..]);
-    let next = places::moved(place, model, start, end, names.chain, residue, spot);
+    let next = insertion::advanced(cursor, model, start, end, names.chain, residue, spot);
     Added {
         edited: Edited::Done(1, 0),
-        place: next,
+        cursor: next,
     }
 }
 
 // To the model at an index.
 pub fn add_atom_at(
     store: &mut [u64],
-    place: Place,
+    cursor: Cursor,
     model: u64,
     chain: &[u8],
     residue: u64,
@@ -252,14 +252,14 @@ pub fn add_atom_at(
     values: NewAtom,
 ) -> Added
     requires { ⌜ Good (now store) ⌝ }
-    requires { ⌜ Known place (now store) ⌝ }
-    ensures { λ r. ⌜ Known (r .place) (now (store .exit)) ⌝ }
+    requires { ⌜ Valid cursor (now store) ⌝ }
+    ensures { λ r. ⌜ Valid (r .cursor) (now (store .exit)) ⌝ }
     ensures { λ r. ⌜ (editedNumbers (r .edited), now (store .exit)) ≡ stepBy (now (store .entry)) (addAtom (length (now (store .entry))) model (addition (now (chain .entry)) residue (optionalOf «code_flag» (now (code .entry))) (now (conformer .entry)) (optionalOf «location_flag» (now (location .entry))) (now (name .entry)) values)) ⌝ }
 {
-    let Span::At(start, end) = places::model_span(store, place, model) else {
+    let Span::At(start, end) = insertion::model_span(store, cursor, model) else {
         return Added {
             edited: Edited::Refused(Refusal::NoPosition),
-            place: place,
+            cursor: cursor,
         };
     };
     let Readied::Ready(names) = ready(
@@ -273,13 +273,13 @@ pub fn add_atom_at(
     ) else {
         return Added {
             edited: Edited::Refused(Refusal::BadIdentifier),
-            place: place,
+            cursor: cursor,
         };
     };
     if good_values(values) {
         return put_atom(
             store,
-            place,
+            cursor,
             model,
             start,
             end,
@@ -294,11 +294,11 @@ pub fn add_atom_at(
     }
     Added {
         edited: Edited::Refused(Refusal::BadValue),
-        place: place,
+        cursor: cursor,
     }
 }
 
-// With nothing known of a place.
+// Without a cursor.
 pub fn add_atom(
     store: &mut [u64],
     model: u64,
@@ -317,7 +317,7 @@ pub fn add_atom(
 {
     let added = add_atom_at(
         store,
-        places::nowhere(),
+        insertion::no_cursor(),
         model,
         chain,
         residue,

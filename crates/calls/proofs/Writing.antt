@@ -8,7 +8,7 @@ use native.Mathlib.Omega.{arith}
 use lib.ListN.{length, length-append}
 use lib.Seq.{take-append-seam, drop-append-seam}
 use borrow.Author.Tests.{le-leb}
-use Rattle.machine.specs.Lists.{bind}
+use Rattle.machine.specs.Lists.{concatMap}
 use Rattle.machine.specs.Edit.{
   Call,
   AddModel,
@@ -65,7 +65,7 @@ formOf (JoinResidues i c r i′ c′ r′) = record { code = 15; numbers = i ∷
 formOf (JoinConformers i c r f i′ c′ r′ f′) = record { code = 16; numbers = i ∷ c ∷ r ∷ f ∷ i′ ∷ c′ ∷ r′ ∷ f′ ∷ []; parts = []; fits = refl }
 
 abbrev pub partWords : List (List ℕ) → List ℕ
-partWords ps = bind (λ (p : List ℕ). length p ∷ p) ps
+partWords ps = concatMap (λ (p : List ℕ). length p ∷ p) ps
 
 abbrev pub body : Call → List ℕ
 body c = formOf c .numbers ++ partWords (formOf c .parts)
@@ -74,7 +74,7 @@ abbrev pub writeCall : Call → List ℕ
 writeCall c = formOf c .code ∷ length (body c) ∷ body c
 
 abbrev pub writeCalls : List Call → List ℕ
-writeCalls cs = bind writeCall cs
+writeCalls cs = concatMap writeCall cs
 
 -- ---- what is written is read back
 

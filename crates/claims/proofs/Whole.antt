@@ -7,7 +7,7 @@ use mathlib.Core.Option.{Option, none, some}
 use lib.ListN.{length}
 use lib.Seq.{take-at, drop-at}
 use lib.Dec.{leb}
-use Rattle.machine.specs.Lists.{bind}
+use Rattle.machine.specs.Lists.{concatMap}
 use Rattle.machine.specs.Answer.{Result, ok, refused}
 use Rattle.machine.specs.Store.{Machine, readStore, openRun}
 use Rattle.machine.specs.Query.{andTree, orTree, notTree}
@@ -48,12 +48,12 @@ module _ (w list out : List ℕ) where
 
 -- ---- the answers, read off the output
 
-threes-answers : (n : ℕ) (m : Machine) (cs : List Call) (rest : List ℕ) → threes (length cs) (bind (λ (a : List ℕ). a) (machineAnswers n m cs) ++ rest) ≡ machineAnswers n m cs
+threes-answers : (n : ℕ) (m : Machine) (cs : List Call) (rest : List ℕ) → threes (length cs) (concatMap (λ (a : List ℕ). a) (machineAnswers n m cs) ++ rest) ≡ machineAnswers n m cs
 unfolding machineAnswers
 threes-answers n m [] rest = refl
 threes-answers n m (c ∷ cs) rest =
     let a = answer m (machineStep n m c) in
-    let more = bind (λ (a : List ℕ). a) (machineAnswers n (next m (machineStep n m c)) cs) in
+    let more = concatMap (λ (a : List ℕ). a) (machineAnswers n (next m (machineStep n m c)) cs) in
     rw (append-assoc a, take-at a (more ++ rest) 3 (three (machineStep n m c)), drop-at a (more ++ rest) 3 (three (machineStep n m c)), threes-answers n (next m (machineStep n m c)) cs rest)
   where
     three : (r : Result Change) → length (answer m r) ≡ 3

@@ -6,7 +6,7 @@ use mathlib.Core.Bool.{true, _||_}
 use mathlib.Core.List.{List, [], _∷_, map}
 use mathlib.Core.Option.{some}
 use lib.ListN.{length, take, drop}
-use Rattle.machine.specs.Lists.{those}
+use Rattle.machine.specs.Lists.{filter}
 use Rattle.machine.specs.Answer.{openedNumbers, foundNumbers}
 use Rattle.machine.specs.Store.{Machine, stored, layOut, openRun}
 use Rattle.machine.specs.Kleene.{isHit, isUndecided}
@@ -66,7 +66,7 @@ threes (suc n) ws = take 3 ws ∷ threes n (drop 3 ws)
 
 -- "Every accepted run of find then lists, in hierarchy order and each once, exactly the stored atoms where its tree isn't false."
 pub record Lists (m : Machine) (tree : List ℕ) (run : List ℕ × List ℕ) : Type 0 where
-  pub hits : list run ≡ map (λ s. s .numbers) (those (λ s. isHit (valueAt tables tree s)) (atomsOf m))
+  pub hits : list run ≡ map (λ s. s .numbers) (filter (λ s. isHit (valueAt tables tree s)) (atomsOf m))
   pub rises : Rising (map atomNumber (list run))
   -- "n is the count that find gives, the number of hits in the list."
   pub number : count run ≡ length (list run)
@@ -94,7 +94,7 @@ pub record Facts (n : ℕ) (calls : List Call) (answers : List (List ℕ)) (m : 
       → count (r .first) + count (r .second) ≡ count (r .both) + count (r .either)
   -- "Where A and "not A" are accepted, they share exactly the atoms where A is undecided"
   pub not-shares : Accepted (r .first) → Accepted (r .opposite)
-      → shared (list (r .first)) (list (r .opposite)) ≡ map (λ s. s .numbers) (those (λ s. isUndecided (valueAt tables A s)) (atomsOf m))
+      → shared (list (r .first)) (list (r .opposite)) ≡ map (λ s. s .numbers) (filter (λ s. isUndecided (valueAt tables A s)) (atomsOf m))
   -- "n(A) + n(not A) = added − removed + undecided"
   pub not-counts : Accepted (r .first) → Accepted (r .opposite)
       → count (r .first) + count (r .opposite) + removed answers ≡ added calls answers + undecided A m

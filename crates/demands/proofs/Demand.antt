@@ -5,7 +5,7 @@ use mathlib.Core.Bool.{Bool, true, false, _&&_, _||_, cond, false≢true}
 use mathlib.Core.List.{List, [], _∷_, map, map-map}
 use native.Mathlib.Omega.{arith}
 use lib.ListN.{length, replicate, length-map}
-use Rattle.machine.specs.Lists.{those}
+use Rattle.machine.specs.Lists.{filter}
 use Rattle.machine.specs.Answer.{Result, ok, refused}
 use Rattle.machine.specs.Store.{Machine, records, stored, layOut, goodLength, readStore, openRun}
 use Rattle.machine.specs.Kleene.{notT, isHit, isUndecided}
@@ -13,7 +13,7 @@ use Rattle.machine.specs.Query.{tables, andTree, orTree, notTree}
 use Rattle.machine.specs.Find.{Site, atomsOf, valueAt, hitsIn}
 use Rattle.machine.specs.Edit.{Call, Change, machineStep, answer, next, stepBy, storeStep, machineAfter, machineAnswers, storeAfter, storeAnswers}
 use Rattle.machine.specs.Demand.{added, removed, Accepted, count, list, atomNumber, Rising, undecided}
-use Rattle.laws.specs.Counting.{those-same, those-all, those-both, Keyed, keyed-those, shared-those, any-those, rises-rising}
+use Rattle.laws.specs.Counting.{filter-same, filter-all, filter-both, Keyed, keyed-filter, shared-filter, any-filter, rises-rising}
 use Rattle.laws.specs.Good.{Fit}
 use Rattle.laws.specs.Layout.{layOut-length, fit-words, read-layOut, open-empty}
 use Rattle.laws.specs.Kleene.{hit-and, hit-or, hit-both, hit-either}
@@ -113,39 +113,39 @@ module _ (w : List ℕ) (calls : List Call) (opens : Accepted (openRun w)) where
     ran : Listed (machine w calls) t (findAfter w calls t out)
     ran = run-listed (machine w calls) t out (after w calls) reads a
 
-    hits-listed : list (findAfter w calls t out) ≡ map numbersOf (those (hits t) atoms)
+    hits-listed : list (findAfter w calls t out) ≡ map numbersOf (filter (hits t) atoms)
     unfolding hitsIn
     hits-listed = ran .hits
 
-    hits-counted : count (findAfter w calls t out) ≡ length (those (hits t) atoms)
-    hits-counted = ran .number ∙ ap length hits-listed ∙ length-map (those (hits t) atoms) numbersOf
+    hits-counted : count (findAfter w calls t out) ≡ length (filter (hits t) atoms)
+    hits-counted = ran .number ∙ ap length hits-listed ∙ length-map (filter (hits t) atoms) numbersOf
 
     hits-rise : Rising (map atomNumber (list (findAfter w calls t out)))
     hits-rise =
         rw (hits-listed, map-map)
-        (rises-rising 0 (length (records (machine w calls))) (map (λ s. atomNumber (numbersOf s)) (those (hits t) atoms)) (keyed-those numbersOf atomNumber (hits t) 0 (length (records (machine w calls))) atoms keyed))
+        (rises-rising 0 (length (records (machine w calls))) (map (λ s. atomNumber (numbersOf s)) (filter (hits t) atoms)) (keyed-filter numbersOf atomNumber (hits t) 0 (length (records (machine w calls))) atoms keyed))
 
   module _ (A o : List ℕ) (a : Accepted (findAfter w calls A o)) where
     module _ (B p : List ℕ) (b : Accepted (findAfter w calls B p)) where
-      and-hits : (q : List ℕ) → Accepted (findAfter w calls (andTree A B) q) → those (hits (andTree A B)) atoms ≡ those (λ s. hits A s && hits B s) atoms
+      and-hits : (q : List ℕ) → Accepted (findAfter w calls (andTree A B) q) → filter (hits (andTree A B)) atoms ≡ filter (λ s. hits A s && hits B s) atoms
       and-hits q c =
-          those-same (hits (andTree A B)) (λ s. hits A s && hits B s)
+          filter-same (hits (andTree A B)) (λ s. hits A s && hits B s)
           (λ s. ap isHit (and-value _ A _ (ran A o a .tree) B _ (ran B p b .tree) _ (ran (andTree A B) q c .tree)) ∙ hit-and (valueAt tables A s) (valueAt tables B s)) atoms
 
-      or-hits : (q : List ℕ) → Accepted (findAfter w calls (orTree A B) q) → those (hits (orTree A B)) atoms ≡ those (λ s. hits A s || hits B s) atoms
+      or-hits : (q : List ℕ) → Accepted (findAfter w calls (orTree A B) q) → filter (hits (orTree A B)) atoms ≡ filter (λ s. hits A s || hits B s) atoms
       or-hits q c =
-          those-same (hits (orTree A B)) (λ s. hits A s || hits B s)
+          filter-same (hits (orTree A B)) (λ s. hits A s || hits B s)
           (λ s. ap isHit (or-value _ A _ (ran A o a .tree) B _ (ran B p b .tree) _ (ran (orTree A B) q c .tree)) ∙ hit-or (valueAt tables A s) (valueAt tables B s)) atoms
 
     module _ (p : List ℕ) (b : Accepted (findAfter w calls (notTree A) p)) where
       not-hits : (s : Site) → hits (notTree A) s ≡ isHit (notT (valueAt tables A s))
       not-hits s = ap isHit (not-value _ A _ (ran A o a .tree) _ (ran (notTree A) p b .tree))
 
-      undecided-hits : those (λ s. hits A s && hits (notTree A) s) atoms ≡ those (λ s. isUndecided (valueAt tables A s)) atoms
-      undecided-hits = those-same (λ s. hits A s && hits (notTree A) s) (λ s. isUndecided (valueAt tables A s)) (λ s. rw (not-hits s) (hit-both (valueAt tables A s))) atoms
+      undecided-hits : filter (λ s. hits A s && hits (notTree A) s) atoms ≡ filter (λ s. isUndecided (valueAt tables A s)) atoms
+      undecided-hits = filter-same (λ s. hits A s && hits (notTree A) s) (λ s. isUndecided (valueAt tables A s)) (λ s. rw (not-hits s) (hit-both (valueAt tables A s))) atoms
 
-      all-hits : those (λ s. hits A s || hits (notTree A) s) atoms ≡ atoms
-      all-hits = those-same (λ s. hits A s || hits (notTree A) s) (λ s. true) (λ s. rw (not-hits s) (hit-either (valueAt tables A s))) atoms ∙ those-all atoms
+      all-hits : filter (λ s. hits A s || hits (notTree A) s) atoms ≡ atoms
+      all-hits = filter-same (λ s. hits A s || hits (notTree A) s) (λ s. true) (λ s. rw (not-hits s) (hit-either (valueAt tables A s))) atoms ∙ filter-all atoms
 
   -- the third demand
   pub demand3 : Demand3 w calls
@@ -160,18 +160,18 @@ module _ (w : List ℕ) (calls : List Call) (opens : Accepted (openRun w)) where
         number = λ t out a. ran t out a .number;
         and-shares = λ A B o p q a b c.
             rw (hits-listed (andTree A B) q c, and-hits A o a B p b q c, hits-listed A o a, hits-listed B p b)
-            (sym (shared-those numbersOf atomNumber (hits A) (hits B) 0 _ atoms keyed));
+            (sym (shared-filter numbersOf atomNumber (hits A) (hits B) 0 _ atoms keyed));
         or-joins = λ A B o p q a b c hit.
             rw (hits-listed (orTree A B) q c, or-hits A o a B p b q c, hits-listed A o a, hits-listed B p b)
-            (any-those numbersOf atomNumber (hits A) (hits B) hit atoms);
+            (any-filter numbersOf atomNumber (hits A) (hits B) hit atoms);
         and-or-counts = λ A B o p q r a b c e.
             rw (hits-counted A o a, hits-counted B p b, hits-counted (andTree A B) q c, and-hits A o a B p b q c, hits-counted (orTree A B) r e, or-hits A o a B p b r e)
-            (those-both (hits A) (hits B) atoms);
+            (filter-both (hits A) (hits B) atoms);
         not-shares = λ A o p a b.
             rw (hits-listed A o a, hits-listed (notTree A) p b)
-            (shared-those numbersOf atomNumber (hits A) (hits (notTree A)) 0 _ atoms keyed ∙ ap (map numbersOf) (undecided-hits A o a p b));
+            (shared-filter numbersOf atomNumber (hits A) (hits (notTree A)) 0 _ atoms keyed ∙ ap (map numbersOf) (undecided-hits A o a p b));
         not-counts = λ A o p a b.
-            let h = those-both (hits A) (hits (notTree A)) atoms in
+            let h = filter-both (hits A) (hits (notTree A)) atoms in
             let u = ap length (undecided-hits A o a p b) in
             let v = ap length (all-hits A o a p b) in
             omega (arith, hits-counted A o a, hits-counted (notTree A) p b, atoms-stored (machine w calls), is-counted);

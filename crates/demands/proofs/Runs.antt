@@ -6,7 +6,7 @@ use mathlib.Core.List.{List, [], _∷_, _++_, append-assoc}
 use lib.ListN.{length, drop}
 use lib.Seq.{take-at, drop-at}
 use lib.Dec.{leb}
-use Rattle.machine.specs.Lists.{those}
+use Rattle.machine.specs.Lists.{filter}
 use Rattle.machine.specs.Answer.{Result, ok, refused, _>>_}
 use Rattle.machine.specs.Store.{Machine, readStore}
 use Rattle.machine.specs.Kleene.{isHit}
@@ -15,7 +15,7 @@ use Rattle.machine.specs.Find.{Site, atomsOf, valueAt, hitsIn, hitsOf, hitWords
 use Rattle.machine.specs.Demand.{Accepted, count, fives, list}
 use Rattle.machine.specs.declared.Node.{Node}
 use Rattle.laws.specs.Lists.{All, All-over}
-use Rattle.laws.specs.Counting.{those-All}
+use Rattle.laws.specs.Counting.{filter-All}
 use Rattle.laws.specs.Numbers.{five-numbers}
 use Rattle.laws.specs.Steps.{refusal-number}
 
@@ -34,7 +34,7 @@ pub hits-five : (t : List ℕ) (m : Machine) → All (λ h. length h ≡ 5) (hit
 unfolding hitsIn
 hits-five t m =
     let hit : Site → Bool = λ s. isHit (valueAt tables t s) in
-    All-over (λ h. length h ≡ 5) (λ (s : Site). s .numbers) (those hit (atomsOf m)) (those-All (λ s. length (s .numbers) ≡ 5) hit (atomsOf m) (five-numbers m))
+    All-over (λ h. length h ≡ 5) (λ (s : Site). s .numbers) (filter hit (atomsOf m)) (filter-All (λ s. length (s .numbers) ≡ 5) hit (atomsOf m) (five-numbers m))
 
 module _ (m : Machine) (t out : List ℕ) where
   written-ok : (ns : List Node) → readTree t ≡ ok ns → (b : Bool) → leb (5 * length (hitsIn tables t m)) (length out) ≡ b → Accepted (written out (ok (hitsIn tables t m))) → Listed m t (written out (ok (hitsIn tables t m)))

@@ -5,7 +5,7 @@ use mathlib.Core.Path.{_≡_}
 use mathlib.Core.Bool.{_||_}
 use mathlib.Core.List.{List, [], map}
 use lib.ListN.{length}
-use Rattle.machine.specs.Lists.{those}
+use Rattle.machine.specs.Lists.{filter}
 use Rattle.machine.specs.Store.{Machine, stored, layOut, openRun}
 use Rattle.machine.specs.Kleene.{isHit, isUndecided}
 use Rattle.machine.specs.Query.{tables, andTree, orTree, notTree}
@@ -37,7 +37,7 @@ module _ (w : List ℕ) (calls : List Call) where
     pub held : after ≡ layOut (length w) machine
     pub counted : stored machine + removed answers ≡ added calls answers
     -- an accepted run lists exactly the stored atoms where its tree isn't false, in hierarchy order, each once
-    pub lists : (t out : List ℕ) → Accepted (findAfter t out) → list (findAfter t out) ≡ map (λ s. s .numbers) (those (λ s. isHit (valueAt tables t s)) (atomsOf machine))
+    pub lists : (t out : List ℕ) → Accepted (findAfter t out) → list (findAfter t out) ≡ map (λ s. s .numbers) (filter (λ s. isHit (valueAt tables t s)) (atomsOf machine))
     pub rises : (t out : List ℕ) → Accepted (findAfter t out) → Rising (map atomNumber (list (findAfter t out)))
     pub number : (t out : List ℕ) → Accepted (findAfter t out) → count (findAfter t out) ≡ length (list (findAfter t out))
     -- "A and B", "A or B"
@@ -49,6 +49,6 @@ module _ (w : List ℕ) (calls : List Call) where
         → count (findAfter A o) + count (findAfter B p) ≡ count (findAfter (andTree A B) q) + count (findAfter (orTree A B) r)
     -- "not A"
     pub not-shares : (A o p : List ℕ) → Accepted (findAfter A o) → Accepted (findAfter (notTree A) p)
-        → shared (list (findAfter A o)) (list (findAfter (notTree A) p)) ≡ map (λ s. s .numbers) (those (λ s. isUndecided (valueAt tables A s)) (atomsOf machine))
+        → shared (list (findAfter A o)) (list (findAfter (notTree A) p)) ≡ map (λ s. s .numbers) (filter (λ s. isUndecided (valueAt tables A s)) (atomsOf machine))
     pub not-counts : (A o p : List ℕ) → Accepted (findAfter A o) → Accepted (findAfter (notTree A) p)
         → count (findAfter A o) + count (findAfter (notTree A) p) + removed answers ≡ added calls answers + undecided A machine

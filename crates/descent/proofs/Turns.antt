@@ -11,10 +11,10 @@ use Rattle.laws.specs.Kleene.{_⊑_}
 use Rattle.laws.specs.Trees.{tree-grows}
 use Rattle.laws.specs.Windows.{term-grows}
 use Rattle.terms.specs.Levels.{placeAt, termValueAt}
-use Rattle.search.specs.Nodes.{checked, lowestFrom}
+use Rattle.search.specs.Nodes.{checked, topmostFrom}
 use Rattle.search.specs.declared.CheckedTree.the-variants.{Good}
-use Rattle.search.proofs.Lowest.{below-lowest}
-use Rattle.descent.specs.Descent.{valueBy, Sure, Turned}
+use Rattle.search.proofs.Topmost.{below-topmost}
+use Rattle.descent.specs.Descent.{valueBy, Settled, Turned}
 use Rattle.descent.proofs.Sites.{enteredAt, known-above}
 
 module _ (w t : List ℕ) (low : ℕ) (residues atoms : List ℕ) where
@@ -33,24 +33,24 @@ module _ (w t : List ℕ) (low : ℕ) (residues atoms : List ℕ) where
       true-grows (by at s) (by at k) (tree-grows (termValueAt w at low s residues atoms) (termValueAt w at low k residues atoms) (term-grows low s k l names (placeAt w at)) t)
 
   -- a record below the one at which it is true is entered
-  pub sure-entered : (s k n : ℕ) (at to : RecordNumbers) → to ≡ enteredAt k n at → 1 ≤ k → k ≤ 5 → Sure (by at) s 5 → Sure (by to) s k
-  sure-entered s k n at to e l h i b =
+  pub settled-entered : (s k n : ℕ) (at to : RecordNumbers) → to ≡ enteredAt k n at → 1 ≤ k → k ≤ 5 → Settled (by at) s 5 → Settled (by to) s k
+  settled-entered s k n at to e l h i b =
       rw e (ap (λ (p : Place). treeValue (termValue (record { residues = residues; atoms = atoms }) p) t) (sym (known-above w low s k n at l h b)) ∙ i (omega arith))
 
   module _ (at : RecordNumbers) (k : ℕ) where
-    pub turn-sure : (s : ℕ) → Sure (by at) s k → s < k → Turned (by at) k (record { live = k; sure = s })
-    turn-sure s i b = record { live = rw (stays at s k (omega arith) (i b)); sure = λ z. i b }
+    pub turn-settled : (s : ℕ) → Settled (by at) s k → s < k → Turned (by at) k (record { live = k; settled = s })
+    turn-settled s i b = record { live = rw (stays at s k (omega arith) (i b)); settled = λ z. i b }
 
     module _ (v : Tri) (e : v ≡ by at k) where
-      pub turn-false : v ≡ False → Turned (by at) k (record { live = k - 1; sure = 5 })
-      turn-false f = record { live = rw (sym e ∙ f); sure = λ z. absurd (omega arith) }
+      pub turn-false : v ≡ False → Turned (by at) k (record { live = k - 1; settled = 5 })
+      turn-false f = record { live = rw (sym e ∙ f); settled = λ z. absurd (omega arith) }
 
-      pub turn-true : v ≡ True → Turned (by at) k (record { live = k; sure = k })
-      turn-true f = record { live = rw (sym e ∙ f); sure = λ z. sym e ∙ f }
+      pub turn-true : v ≡ True → Turned (by at) k (record { live = k; settled = k })
+      turn-true f = record { live = rw (sym e ∙ f); settled = λ z. sym e ∙ f }
 
-      pub turn-undecided : v ≡ Undecided → Turned (by at) k (record { live = k; sure = 5 })
-      turn-undecided f = record { live = rw (sym e ∙ f); sure = λ z. absurd (omega arith) }
+      pub turn-undecided : v ≡ Undecided → Turned (by at) k (record { live = k; settled = 5 })
+      turn-undecided f = record { live = rw (sym e ∙ f); settled = λ z. absurd (omega arith) }
 
     -- no kind that is known is one that the tree asks for
-    pub turn-quiet : (lowest : ℕ) → checked (readTree t) ≡ Good → lowest ≡ lowestFrom 5 t → k < lowest → Turned (by at) k (record { live = k; sure = 5 })
-    turn-quiet lowest good e h = turn-undecided Undecided (below-lowest w at low k residues atoms t good (rw (← e) h)) refl
+    pub turn-quiet : (topmost : ℕ) → checked (readTree t) ≡ Good → topmost ≡ topmostFrom 5 t → k < topmost → Turned (by at) k (record { live = k; settled = 5 })
+    turn-quiet topmost good e h = turn-undecided Undecided (below-topmost w at low k residues atoms t good (rw (← e) h)) refl

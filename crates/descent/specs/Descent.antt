@@ -43,10 +43,10 @@ abbrev pub valueBy : List ℕ → List ℕ → ℕ → List ℕ → List ℕ →
 valueBy w t low residues atoms at k = treeValue (termValueAt w at low k residues atoms) t
 
 -- with kinds up to s known the value is true, where s is below k
-abbrev pub Sure : (ℕ → Tri) → ℕ → ℕ → Type 0
-Sure v s k = s < k → v s ≡ True
+abbrev pub Settled : (ℕ → Tri) → ℕ → ℕ → Type 0
+Settled v s k = s < k → v s ≡ True
 
 -- the state after a record of kind k, at which the tree has the value v k
 pub record Turned (v : ℕ → Tri) (k : ℕ) (r : State) : Type 0 where
   pub live : r .live ≡ depthAfter k (v k)
-  pub sure : Sure v (r .sure) 5
+  pub settled : Settled v (r .settled) 5

@@ -8,9 +8,9 @@ ghost use Prim.Native.Nat.{_-_, _≤_};
 ghost use lib.ListN.{set};
 ghost use Rattle.machine.specs.Query.{readTree};
 ghost use Rattle.terms.specs.Levels.{fiveNumbers, Inside};
-ghost use Rattle.search.specs.Nodes.{checked, lowestFrom};
+ghost use Rattle.search.specs.Nodes.{checked, topmostFrom};
 ghost use Rattle.search.specs.declared.CheckedTree.the-variants.{Good};
-ghost use Rattle.descent.specs.Descent.{five, start as startAt, valueBy, Sure, Turned};
+ghost use Rattle.descent.specs.Descent.{five, start as startAt, valueBy, Settled, Turned};
 
 // The numbers before any record was seen.
 pub fn start() -> RecordNumbers
@@ -44,14 +44,14 @@ pub fn enter(at: &mut [u64; 5], kind: u64, n: u64)
 // tree is true, so that what is below needs no look. No record is of a kind above 5, which stands for none.
 pub struct State {
     pub live: u64,
-    pub sure: u64,
+    pub settled: u64,
 }
 
 impl State {
-    fn new(live: u64, sure: u64) -> State
-        ensures { λ r. ⌜ r ≡ record { live = live; sure = sure } ⌝ }
+    fn new(live: u64, settled: u64) -> State
+        ensures { λ r. ⌜ r ≡ record { live = live; settled = settled } ⌝ }
     {
-        State { live, sure }
+        State { live, settled }
     }
 }
 
@@ -63,20 +63,20 @@ pub fn turn(
     at: &[u64; 5],
     low: u64,
     kind: u64,
-    lowest: u64,
-    sure: u64,
+    topmost: u64,
+    settled: u64,
     residues: &[u64],
     atoms: &[u64],
 ) -> State
     requires { ⌜ (checked (readTree (now tree)) ≡ Good) × Inside (now store) (fiveNumbers (now at)) × (1 ≤ kind)
-        × Sure (valueBy (now store) (now tree) low (now residues) (now atoms) (fiveNumbers (now at))) sure kind × (lowest ≡ lowestFrom 5 (now tree)) ⌝ }
+        × Settled (valueBy (now store) (now tree) low (now residues) (now atoms) (fiveNumbers (now at))) settled kind × (topmost ≡ topmostFrom 5 (now tree)) ⌝ }
     ensures { λ r. ⌜ Turned
         (valueBy (now (store .entry)) (now (tree .entry)) low (now (residues .entry)) (now (atoms .entry)) (fiveNumbers (now (at .entry)))) kind r ⌝ }
 {
-    if sure < kind {
-        return State::new(kind, sure);
+    if settled < kind {
+        return State::new(kind, settled);
     }
-    if kind < lowest {
+    if kind < topmost {
         return State::new(kind, Record::ATOM);
     }
     let above = kind - 1;

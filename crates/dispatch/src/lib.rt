@@ -7,14 +7,14 @@ ghost use lib.ListN.{length};
 ghost use Rattle.machine.specs.Answer.{editedNumbers};
 ghost use Rattle.machine.specs.Edit.{storeStep};
 ghost use Rattle.seek.specs.Seek.{Good};
-ghost use Rattle.places.specs.Place.{Known};
+ghost use Rattle.insertion.specs.Cursor.{Valid};
 ghost use Rattle.calls.specs.Counted.{isSome};
 ghost use Rattle.calls.specs.Format.{readCall};
 ghost use Rattle.dispatch.specs.Words.{partEnd, Narrowed, valuesIn};
 use additions::Added;
+use insertion::Cursor;
 use machine::Edited;
 use machine::NewAtom;
-use places::Place;
 
 // ---- calls with texts, a byte to a word
 
@@ -57,12 +57,12 @@ fn values(words: &[u64]) -> NewAtom
 }
 
 // Each text's end has the text's name.
-pub fn add_atom(store: &mut [u64], place: Place, words: &[u64], bytes: &[u8]) -> Added
+pub fn add_atom(store: &mut [u64], cursor: Cursor, words: &[u64], bytes: &[u8]) -> Added
     requires { ⌜ Good (now store) ⌝ }
-    requires { ⌜ Known place (now store) ⌝ }
+    requires { ⌜ Valid cursor (now store) ⌝ }
     requires { ⌜ isSome (readCall 2 (now words)) ≡ true ⌝ }
     requires { ⌜ Narrowed (now words) (now bytes) ⌝ }
-    ensures { λ r. ⌜ Known (r .place) (now (store .exit)) ⌝ }
+    ensures { λ r. ⌜ Valid (r .cursor) (now (store .exit)) ⌝ }
     ensures { λ r. ⌜ some (editedNumbers (r .edited), now (store .exit)) ≡ Option·map (storeStep (now (store .entry))) (readCall 2 (now (words .entry))) ⌝ }
 {
     let chain = part_end(words, 13);
@@ -72,7 +72,7 @@ pub fn add_atom(store: &mut [u64], place: Place, words: &[u64], bytes: &[u8]) ->
     let name = part_end(words, location);
     additions::add_atom_at(
         store,
-        place,
+        cursor,
         words[0],
         &bytes[14..chain],
         words[1],
@@ -165,7 +165,7 @@ fn remove_atoms_by(store: &mut [u64], words: &[u64]) -> Edited
     requires { ⌜ isSome (readCall 11 (now words)) ≡ true ⌝ }
     ensures { λ r. ⌜ some (editedNumbers r, now (store .exit)) ≡ Option·map (storeStep (now (store .entry))) (readCall 11 (now (words .entry))) ⌝ }
 {
-    selections::remove_atoms_by(store, words[0], &words[2..])
+    tree_removals::remove_atoms_by(store, words[0], &words[2..])
 }
 
 fn remove_empty(store: &mut [u64], words: &[u64]) -> Edited
@@ -173,7 +173,7 @@ fn remove_empty(store: &mut [u64], words: &[u64]) -> Edited
     requires { ⌜ isSome (readCall 12 (now words)) ≡ true ⌝ }
     ensures { λ r. ⌜ some (editedNumbers r, now (store .exit)) ≡ Option·map (storeStep (now (store .entry))) (readCall 12 (now (words .entry))) ⌝ }
 {
-    prunings::remove_empty(store, words[0])
+    empty_removals::remove_empty(store, words[0])
 }
 
 // The words of a join are two positions, as long.

@@ -9,7 +9,7 @@ use native.Mathlib.Omega.{arith}
 use lib.ListN.{length, getD, take, drop, length-append, length-take, length-drop}
 use lib.Seq.{drop-drop, drop-length, getD-drop}
 use borrow.Author.Tests.{le-leb, lt-leb}
-use Rattle.machine.specs.Lists.{bind}
+use Rattle.machine.specs.Lists.{concatMap}
 use Rattle.machine.specs.Answer.{Result, ok, refused, editedNumbers, editFields}
 use Rattle.machine.specs.Store.{Machine, readStore}
 use Rattle.machine.specs.Edit.{Call, Change, stepBy, storeStep, storeAfter, storeAnswers}
@@ -52,7 +52,7 @@ unfolding storeStep
 step-three w c = three-by w _ (readStore w) refl
 
 abbrev wordsOf : List (List ℕ) → List ℕ
-wordsOf answers = bind (λ (a : List ℕ). a) answers
+wordsOf answers = concatMap (λ (a : List ℕ). a) answers
 
 answers-three : (w : List ℕ) (cs : List Call) → length (wordsOf (storeAnswers w cs)) ≡ 3 * length (storeAnswers w cs)
 unfolding storeAnswers

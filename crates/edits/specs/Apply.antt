@@ -5,7 +5,7 @@ use mathlib.Core.List.{List, [], _∷_, _++_}
 use mathlib.Core.Option.{Option, none, some}
 use lib.ListN.{length, drop}
 use lib.Dec.{leb}
-use Rattle.machine.specs.Lists.{bind}
+use Rattle.machine.specs.Lists.{concatMap}
 use Rattle.machine.specs.Answer.{Result, ok, refused, refusalNumber}
 use Rattle.machine.specs.Store.{Machine, readStore}
 use Rattle.machine.specs.Edit.{Call, storeAfter, storeAnswers}
@@ -31,7 +31,7 @@ ran numbers store out = record { numbers = numbers; store = store; out = out }
 
 -- three words for each call's answer, from the output's first word on
 abbrev pub answered : List (List ℕ) → List ℕ → List ℕ
-answered answers out = bind (λ (a : List ℕ). a) answers ++ drop (3 * length answers) out
+answered answers out = concatMap (λ (a : List ℕ). a) answers ++ drop (3 * length answers) out
 
 -- the store's words and the output's after a list's calls
 abbrev pub applied : List ℕ → List ℕ → List Call → List ℕ × List ℕ

@@ -9,15 +9,15 @@ ghost use Rattle.machine.specs.Answer.{editedNumbers};
 ghost use Rattle.machine.specs.Edit.{storeStep};
 ghost use Rattle.moves.specs.Over.{over};
 ghost use Rattle.seek.specs.Seek.{Good};
-ghost use Rattle.places.specs.Place.{Known};
+ghost use Rattle.insertion.specs.Cursor.{Valid};
 ghost use Rattle.calls.specs.Counted.{isSome};
 ghost use Rattle.calls.specs.Format.{readCall, readCalls};
 ghost use Rattle.edits.specs.Apply.{appliedNumbers, callsOf, applied, ran, runCalls, applyRun};
 use additions::Added;
 use calls::Counted;
+use insertion::Cursor;
 use machine::Edited;
 use machine::Refusal;
-use places::Place;
 use store::Checked;
 
 pub enum Applied {
@@ -29,24 +29,30 @@ pub enum Applied {
 
 // ---- one call
 
-// The bytes are lent to the calls that have texts. After any call but an addition of an atom the place is not known.
-fn apply_call(store: &mut [u64], place: Place, code: u64, words: &[u64], bytes: &mut [u8]) -> Added
+// The bytes are lent to the calls that have texts. Any call but an addition of an atom loses the cursor.
+fn apply_call(
+    store: &mut [u64],
+    cursor: Cursor,
+    code: u64,
+    words: &[u64],
+    bytes: &mut [u8],
+) -> Added
     requires { ⌜ Good (now store) ⌝ }
-    requires { ⌜ Known place (now store) ⌝ }
+    requires { ⌜ Valid cursor (now store) ⌝ }
     requires { ⌜ isSome (readCall code (now words)) ≡ true ⌝ }
     requires { ⌜ length (now words) ≤ length (now bytes) ⌝ }
-    ensures { λ r. ⌜ Known (r .place) (now (store .exit)) ⌝ }
+    ensures { λ r. ⌜ Valid (r .cursor) (now (store .exit)) ⌝ }
     ensures { λ r. ⌜ some (editedNumbers (r .edited), now (store .exit)) ≡ Option·map (storeStep (now (store .entry))) (readCall code (now (words .entry))) ⌝ }
 {
     dispatch::narrow(words, bytes);
     if code == 2 {
-        return dispatch::add_atom(store, place, words, bytes);
+        return dispatch::add_atom(store, cursor, words, bytes);
     }
     let edited = dispatch::run_call(store, code, words, bytes);
-    let nowhere = places::nowhere();
+    let no_cursor = insertion::no_cursor();
     Added {
         edited: edited,
-        place: nowhere,
+        cursor: no_cursor,
     }
 }
 
@@ -69,17 +75,17 @@ fn apply_all(store: &mut [u64], list: &[u64], out: &mut [u64])
     ensures { λ _. ⌜ (now (store .exit), now (out .exit)) ≡ applied (now (store .entry)) (now (out .entry)) (callsOf (readCalls (now (list .entry)))) ⌝ }
 {
     let mut bytes: [u8; 1024] = [0; 1024];
-    let mut place = places::nowhere();
+    let mut cursor = insertion::no_cursor();
     let mut at: usize = 0;
     let mut written: usize = 0;
     while at < list.len() {
         let start = at + 2;
         let end = start + list[at + 1] as usize;
-        let added = apply_call(store, place, list[at], &list[start..end], &mut bytes);
+        let added = apply_call(store, cursor, list[at], &list[start..end], &mut bytes);
         let edited = added.edited;
-        let next = added.place;
+        let next = added.cursor;
         put_answer(out, written, edited);
-        place = next;
+        cursor = next;
         at = end;
         written += 3;
     }

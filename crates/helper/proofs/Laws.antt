@@ -10,7 +10,7 @@ use lib.Seq.{drop-cons, take-suc, take-length, length-take-le}
 use lib.Dec.{ltb}
 use borrow.Author.Tests.{le-leb, lt-leb, lt-ltb}
 use Rattle.machine.specs.Lists.{all, isEmpty}
-use Rattle.machine.specs.Text.{packed, pack, plain, blank, raise, trimStart, trim, fit, chainId, raised, atomName, byFlag}
+use Rattle.machine.specs.Text.{packed, pack, plain, blank, toUpper, trimStart, trim, fit, chainId, uppercaseOr, atomName, byFlag}
 use Rattle.machine.specs.declared.Prepared.{Prepared}
 use Rattle.machine.specs.declared.Prepared.the-variants.{Stored, Absent, Bad}
 use Rattle.laws.specs.Packing.{packed-none}
@@ -118,39 +118,39 @@ pub valid-done : (t : List ℕ) (i : ℕ) → Valid t i → length t ≤ i → t
 valid-done t i s h = sym (s .same ∙ rw (drop-of-length-le t {i = i} h))
 
 -- `upper_if`
-pub raise-not : (up : Bool) (b : ℕ) → not up ≡ true → b ≡ cond up (raise b) b
-raise-not true b h = absurd (false≢true h)
-raise-not false b h = refl
+pub toUpper-not : (up : Bool) (b : ℕ) → not up ≡ true → b ≡ cond up (toUpper b) b
+toUpper-not true b h = absurd (false≢true h)
+toUpper-not false b h = refl
 
 module _ (up : Bool) (b : ℕ) (u : not up ≡ false) where
-  raises : cond up (raise b) b ≡ raise b
+  raises : cond up (toUpper b) b ≡ toUpper b
   raises = go up u
     where
-      go : (up : Bool) → not up ≡ false → cond up (raise b) b ≡ raise b
+      go : (up : Bool) → not up ≡ false → cond up (toUpper b) b ≡ toUpper b
       go true u = refl
       go false u = absurd (false≢true (sym u))
 
-  pub raise-low : b < 97 → b ≡ cond up (raise b) b
-  raise-low h = rw (raises, lt-leb 97 b h)
+  pub toUpper-low : b < 97 → b ≡ cond up (toUpper b) b
+  toUpper-low h = rw (raises, lt-leb 97 b h)
 
-  pub raise-high : 97 ≤ b → 122 < b → b ≡ cond up (raise b) b
-  raise-high k h = rw (raises, le-leb 97 b k, lt-leb b 122 h)
+  pub toUpper-high : 97 ≤ b → 122 < b → b ≡ cond up (toUpper b) b
+  toUpper-high k h = rw (raises, le-leb 97 b k, lt-leb b 122 h)
 
-  pub raise-mid : 97 ≤ b → b ≤ 122 → b - 32 ≡ cond up (raise b) b
-  raise-mid k h = rw (raises, le-leb 97 b k, le-leb b 122 h)
+  pub toUpper-mid : 97 ≤ b → b ≤ 122 → b - 32 ≡ cond up (toUpper b) b
+  toUpper-mid k h = rw (raises, le-leb 97 b k, le-leb b 122 h)
 
 -- `digit`
-getD-upperIf : (up : Bool) (t : List ℕ) (i : ℕ) → getD (upperIf up t) i 0 ≡ cond up (raise (getD t i 0)) (getD t i 0)
-getD-upperIf true t i = List·getD-map raise t i 0
+getD-upperIf : (up : Bool) (t : List ℕ) (i : ℕ) → getD (upperIf up t) i 0 ≡ cond up (toUpper (getD t i 0)) (getD t i 0)
+getD-upperIf true t i = List·getD-map toUpper t i 0
 getD-upperIf false t i = refl
 
-pub digit-in : (up : Bool) (t : List ℕ) (i r : ℕ) → r ≡ cond up (raise (getD t i 0)) (getD t i 0) → r ≡ getD (upperIf up t) i 0
+pub digit-in : (up : Bool) (t : List ℕ) (i r : ℕ) → r ≡ cond up (toUpper (getD t i 0)) (getD t i 0) → r ≡ getD (upperIf up t) i 0
 digit-in up t i r p = p ∙ sym (getD-upperIf up t i)
 
 pub digit-out : (up : Bool) (t : List ℕ) (i : ℕ) → length t ≤ i → 0 ≡ getD (upperIf up t) i 0
 digit-out up t i h = sym (getD-upperIf up t i ∙ rw (List·getD-eq-default t 0 {n = i} h) (go up))
   where
-    go : (up : Bool) → cond up (raise 0) 0 ≡ 0
+    go : (up : Bool) → cond up (toUpper 0) 0 ≡ 0
     go true = refl
     go false = refl
 
@@ -184,7 +184,7 @@ pack-eight t d₀ d₁ d₂ d₃ d₄ d₅ d₆ d₇ h₀ h₁ h₂ h₃ h₄ h�
 -- ---- made ready for the store
 
 length-upperIf : (up : Bool) (t : List ℕ) → length (upperIf up t) ≡ length t
-length-upperIf true t = length-map t raise
+length-upperIf true t = length-map t toUpper
 length-upperIf false t = refl
 
 module _ (up : Bool) (t : List ℕ) where
@@ -210,17 +210,17 @@ module _ (t u : List ℕ) (e : u ≡ trim t) where
     pub chain-bad : v ≡ all plain u → v && ltb 0 (length u) ≡ false → Bad ≡ chainId t
     chain-bad p h = sym (chain-is p ∙ rw h)
 
-    raised-is : (other : Prepared) → v ≡ all plain t → raised t other ≡ cond (v && ltb 0 (length u)) (fit (map raise u)) other
-    unfolding raised
-    raised-is other p = rw (← e, any-byte u, p)
+    uppercaseOr-is : (other : Prepared) → v ≡ all plain t → uppercaseOr t other ≡ cond (v && ltb 0 (length u)) (fit (map toUpper u)) other
+    unfolding uppercaseOr
+    uppercaseOr-is other p = rw (← e, any-byte u, p)
 
-    pub raised-good : (other r : Prepared) → v ≡ all plain t → v && ltb 0 (length u) ≡ true → r ≡ fit (map raise u) → r ≡ raised t other
-    raised-good other r p h s = s ∙ sym (raised-is other p ∙ rw h)
+    pub uppercaseOr-good : (other r : Prepared) → v ≡ all plain t → v && ltb 0 (length u) ≡ true → r ≡ fit (map toUpper u) → r ≡ uppercaseOr t other
+    uppercaseOr-good other r p h s = s ∙ sym (uppercaseOr-is other p ∙ rw h)
 
-    pub raised-other : (other : Prepared) → v ≡ all plain t → v && ltb 0 (length u) ≡ false → other ≡ raised t other
-    raised-other other p h = sym (raised-is other p ∙ rw h)
+    pub uppercaseOr-other : (other : Prepared) → v ≡ all plain t → v && ltb 0 (length u) ≡ false → other ≡ uppercaseOr t other
+    uppercaseOr-other other p h = sym (uppercaseOr-is other p ∙ rw h)
 
-  pub atom-good : (v : Bool) (r : Prepared) → v ≡ all plain u → v ≡ true → r ≡ fit (map raise u) → r ≡ atomName t
+  pub atom-good : (v : Bool) (r : Prepared) → v ≡ all plain u → v ≡ true → r ≡ fit (map toUpper u) → r ≡ atomName t
   unfolding atomName
   atom-good v r p h s = s ∙ rw (← e, ← p, h)
 

@@ -2,7 +2,7 @@
 use Prim.Native.Nat.{ℕ}
 use mathlib.Core.Bool.{Bool, cond}
 use mathlib.Core.List.{List, map, reverse}
-use Rattle.machine.specs.Text.{trimStart, raise}
+use Rattle.machine.specs.Text.{trimStart, toUpper}
 
 -- without the blanks at the end
 unfoldable pub trimEnd : List ℕ → List ℕ
@@ -10,4 +10,4 @@ trimEnd t = reverse (trimStart (reverse t))
 
 -- a to z raised where `up`
 abbrev pub upperIf : Bool → List ℕ → List ℕ
-upperIf up t = cond up (map raise t) t
+upperIf up t = cond up (map toUpper t) t

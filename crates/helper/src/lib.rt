@@ -5,7 +5,7 @@ ghost use mathlib.Core.Bool.{cond};
 ghost use Prim.Native.Nat.{_≤_, _<_};
 ghost use lib.ListN.{length, take, drop, getD};
 ghost use Rattle.machine.specs.Lists.{all};
-ghost use Rattle.machine.specs.Text.{plain, blank, raise, trimStart, trim, pack, fit, chainId, raised, insertionCode, alternativeLocation, atomName, byFlag};
+ghost use Rattle.machine.specs.Text.{plain, blank, toUpper, trimStart, trim, pack, fit, chainId, uppercaseOr, insertionCode, alternativeLocation, atomName, byFlag};
 ghost use Rattle.helper.specs.Text.{trimEnd, upperIf};
 ghost use Rattle.machine.specs.declared.Prepared.the-variants.{Bad};
 use machine::Prepared;
@@ -83,7 +83,7 @@ fn valid_text(text: &[u8]) -> bool
 
 // The byte as a number, with a..z raised if `up`.
 fn upper_if(b: u8, up: bool) -> u64
-    ensures { λ r. ⌜ (r ≡ cond up (raise b) b) × (r < 256) ⌝ }
+    ensures { λ r. ⌜ (r ≡ cond up (toUpper b) b) × (r < 256) ⌝ }
 {
     let x = b as u64;
     if !up {
@@ -150,7 +150,7 @@ pub fn prepare_chain_id(text: &[u8]) -> Prepared
 
 // The text is checked, then trimmed and raised; a bad or blank one gives the other answer.
 fn prepare_uppercase_or(text: &[u8], other: Prepared) -> Prepared
-    ensures { λ r. ⌜ r ≡ raised (now (text .entry)) other ⌝ }
+    ensures { λ r. ⌜ r ≡ uppercaseOr (now (text .entry)) other ⌝ }
 {
     let t = trimmed(text);
     if valid_text(text) & (0 < t.len()) {
@@ -162,7 +162,7 @@ fn prepare_uppercase_or(text: &[u8], other: Prepared) -> Prepared
 
 // For insertion codes and conformer names.
 pub fn prepare_identifier_uppercase(text: &[u8]) -> Prepared
-    ensures { λ r. ⌜ r ≡ raised (now (text .entry)) Bad ⌝ }
+    ensures { λ r. ⌜ r ≡ uppercaseOr (now (text .entry)) Bad ⌝ }
 {
     prepare_uppercase_or(text, Prepared::Bad)
 }
@@ -188,7 +188,7 @@ pub fn prepare_atom_name(text: &[u8]) -> Prepared
 
 // With flag 0 the text isn't read; a flag over 1 is bad.
 fn prepare_optional(flag: u64, text: &[u8], other: Prepared) -> Prepared
-    ensures { λ r. ⌜ r ≡ byFlag flag (raised (now (text .entry)) other) ⌝ }
+    ensures { λ r. ⌜ r ≡ byFlag flag (uppercaseOr (now (text .entry)) other) ⌝ }
 {
     if flag < 1 {
         return Prepared::Absent;

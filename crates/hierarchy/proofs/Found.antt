@@ -10,7 +10,7 @@ use lib.ListN.{length, getD, take, drop, replicate, length-append, length-drop}
 use lib.Seq.{drop-drop, drop-append-seam, getD-drop}
 use lib.Dec.{leb}
 use borrow.Author.Tests.{lt-ltb}
-use Rattle.machine.specs.Lists.{those, bind, along}
+use Rattle.machine.specs.Lists.{filter, concatMap, concatMapFrom}
 use Rattle.machine.specs.Answer.{Result, ok, refused, _>>=_, _>>_, refusalNumber}
 use Rattle.machine.specs.Record.{Fields, Words, words, fieldsOf}
 use Rattle.machine.specs.Store.{Branch, Machine, flat, records, laid, layOut, readStore}
@@ -19,7 +19,7 @@ use Rattle.machine.specs.Query.{tables, readTree}
 use Rattle.machine.specs.declared.Node.{Node}
 use Rattle.machine.specs.Find.{Site, enter, below, top, size, atomsIn, atomsOf, valueAt, hitsIn, hitsOf, hitWords, written, findRun}
 use Rattle.laws.specs.Lists.{All, All-append, All-map, All-over}
-use Rattle.laws.specs.Counting.{those-All}
+use Rattle.laws.specs.Counting.{filter-All}
 use Rattle.laws.specs.Grouped.{concat, twelve-words}
 use Rattle.laws.specs.Layout.{layOut-read, read-length, read-fit, fit-words}
 use Rattle.demands.proofs.Runs.{hits-five}
@@ -48,12 +48,12 @@ module _ (rs : List Words) where
 
   -- what holds of the sites of each branch, at its number, holds of those of a list of branches
   each : (P : Site → Type 0) (k : ℕ) (f : ℕ → Branch k → List Site) → ((n : ℕ) (t : Branch k) (rest : List Words) → drop n rs ≡ flat k t ++ rest → All P (f n t))
-      → (n : ℕ) (ts : List (Branch k)) (rest : List Words) → drop n rs ≡ bind (flat k) ts ++ rest → All P (along (size k) f n ts)
+      → (n : ℕ) (ts : List (Branch k)) (rest : List Words) → drop n rs ≡ concatMap (flat k) ts ++ rest → All P (concatMapFrom (size k) f n ts)
   each P k f h n [] rest e = tt
   each P k f h n (t ∷ ts) rest e =
-      let e′ : drop n rs ≡ flat k t ++ (bind (flat k) ts ++ rest) = e ∙ append-assoc (flat k t) (bind (flat k) ts) rest in
-      let next : drop (n + size k t) rs ≡ bind (flat k) ts ++ rest = sym (drop-drop (size k t) n rs) ∙ ap (drop (size k t)) e′ ∙ drop-append-seam (flat k t) (bind (flat k) ts ++ rest) in
-      All-append P (f n t) (along (size k) f (n + size k t) ts) (h n t (bind (flat k) ts ++ rest) e′) (each P k f h (n + size k t) ts rest next)
+      let e′ : drop n rs ≡ flat k t ++ (concatMap (flat k) ts ++ rest) = e ∙ append-assoc (flat k t) (concatMap (flat k) ts) rest in
+      let next : drop (n + size k t) rs ≡ concatMap (flat k) ts ++ rest = sym (drop-drop (size k t) n rs) ∙ ap (drop (size k t)) e′ ∙ drop-append-seam (flat k t) (concatMap (flat k) ts ++ rest) in
+      All-append P (f n t) (concatMapFrom (size k) f (n + size k t) ts) (h n t (concatMap (flat k) ts ++ rest) e′) (each P k f h (n + size k t) ts rest next)
 
   -- the same of a branch, for those of its children
   down : (P : Site → Type 0) (k : ℕ) (s : Site) (n : ℕ) (t : Branch (suc k)) (rest : List Words) → drop n rs ≡ flat (suc k) t ++ rest
@@ -61,8 +61,8 @@ module _ (rs : List Words) where
       → All P (atomsIn (suc k) s n t)
   unfolding atomsIn flat
   down P k s n t rest e h =
-      each P k (atomsIn k (below (suc k) n (t .0) s)) (h (is-head n (words (suc k) (t .0)) (bind (flat k) (t .1) ++ rest) e)) (suc n) (t .1) rest
-      (is-tail n (words (suc k) (t .0)) (bind (flat k) (t .1) ++ rest) e)
+      each P k (atomsIn k (below (suc k) n (t .0) s)) (h (is-head n (words (suc k) (t .0)) (concatMap (flat k) (t .1) ++ rest) e)) (suc n) (t .1) rest
+      (is-tail n (words (suc k) (t .0)) (concatMap (flat k) (t .1) ++ rest) e)
 
 -- ---- what a site's numbers name
 
@@ -110,7 +110,7 @@ module _ (w : List ℕ) (m : Machine) (h : readStore w ≡ ok m) where
       (λ i₃ c t₂ r₂ e₂. down rs (Shown w) 1 (below 3 b (t₃ .0) (below 4 a (t₄ .0) top)) c t₂ r₂ e₂
       (λ i₂ d t₁ r₁ e₁. down rs (Shown w) 0 (below 2 c (t₂ .0) (below 3 b (t₃ .0) (below 4 a (t₄ .0) top))) d t₁ r₁ e₁
       (λ i₁ e t₀ r₀ e₀. (shown-at a b c d e (t₄ .0) (t₃ .0) (t₂ .0) (t₁ .0) t₀ i₄ i₃ i₂ i₁ (is-head rs e (words 0 t₀) r₀ e₀), tt))))))
-      0 m [] (sym (append-nil (bind (flat 4) m)))
+      0 m [] (sym (append-nil (concatMap (flat 4) m)))
 
 -- ---- find's output
 
@@ -155,8 +155,8 @@ hits-shown : (w t : List ℕ) (m : Machine) → readStore w ≡ ok m → All (λ
 unfolding hitsIn
 hits-shown w t m h =
     let hit : Site → Bool = λ s. isHit (valueAt tables t s) in
-    All-over (λ h. namedBy w (numbersAt h 0) ≡ At (numbersAt h 0)) (λ (s : Site). s .numbers) (those hit (atomsOf m))
-    (those-All (λ s. namedBy w (numbersAt (s .numbers) 0) ≡ At (numbersAt (s .numbers) 0)) hit (atomsOf m) (All-map (λ s x. x .named) (atomsOf m) (sites-shown w m h)))
+    All-over (λ h. namedBy w (numbersAt h 0) ≡ At (numbersAt h 0)) (λ (s : Site). s .numbers) (filter hit (atomsOf m))
+    (filter-All (λ s. namedBy w (numbersAt (s .numbers) 0) ≡ At (numbersAt (s .numbers) 0)) hit (atomsOf m) (All-map (λ s x. x .named) (atomsOf m) (sites-shown w m h)))
 
 module _ (w out : List ℕ) (n i : ℕ) (low : i < n) where
   -- an answer without hits has none

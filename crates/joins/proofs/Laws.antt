@@ -6,14 +6,14 @@ use mathlib.Core.List.{List, [], _∷_, _++_, append-assoc, append-nil}
 use mathlib.Core.Option.{Option, none, some}
 use native.Mathlib.Omega.{arith}
 use lib.ListN.{length, length-append}
-use Rattle.machine.specs.Lists.{sum, bind, same}
+use Rattle.machine.specs.Lists.{sum, concatMap, same}
 use Rattle.machine.specs.Answer.{Result, ok, refused}
 use Rattle.machine.specs.Record.{Words, words}
 use Rattle.machine.specs.Store.{Branch, Machine, flat, records, atomCount, stored}
 use Rattle.machine.specs.Find.{size}
 use Rattle.machine.specs.Edit.{up, branchAt, replaceAt, joinAt}
 use Rattle.machine.specs.declared.Refusal.the-variants.{NoPosition, JoinWithItself}
-use Rattle.laws.specs.Lists.{sum-append, bind-append, same-true, same-refl}
+use Rattle.laws.specs.Lists.{sum-append, concatMap-append, same-true, same-refl}
 use Rattle.laws.specs.Places.{Spot, replace-sum, atom-splits, flat-splits, branchAt-other}
 use Rattle.laws.specs.Places as places
 use Rattle.seek.specs.Seek.{spanAt, spanOn, span, spanOf}
@@ -54,7 +54,7 @@ pub record Rules {A : Type 0} (flats : A → List Words) (count : A → ℕ) (m 
 
 module _ (d j : ℕ) (a b : List ℕ) (la : length a ≡ suc d) (lb : length b ≡ suc d) (m : List (Branch (up d (suc j)))) where
   abbrev flats : List (Branch (up d (suc j))) → List Words
-  flats ts = bind (flat (up d (suc j))) ts
+  flats ts = concatMap (flat (up d (suc j))) ts
 
   abbrev count : List (Branch (up d (suc j))) → ℕ
   count ts = sum (atomCount (up d (suc j))) ts
@@ -95,9 +95,9 @@ module _ (d j : ℕ) (a b : List ℕ) (la : length a ≡ suc d) (lb : length b �
         omega (arith, atom-splits j t, atom-splits j u, atom-splits j (t .0, t .1 ++ u .1), sum-append (atomCount j) (t .1) (u .1))
 
   -- the second's children stand after the first's records
-  grown-flats : (t u : Branch (suc j)) (s : Spot d (suc j) a m t) → flats (grown t u) ≡ (s .pre ++ flat (suc j) t) ++ (bind (flat j) (u .1) ++ s .post)
+  grown-flats : (t u : Branch (suc j)) (s : Spot d (suc j) a m t) → flats (grown t u) ≡ (s .pre ++ flat (suc j) t) ++ (concatMap (flat j) (u .1) ++ s .post)
   unfolding flat
-  grown-flats t u s = s .is ((t .0, t .1 ++ u .1) ∷ []) ∙ rw (bind-append (flat j) (t .1) (u .1)) (simp (append-assoc, append-nil))
+  grown-flats t u s = s .is ((t .0, t .1 ++ u .1) ∷ []) ∙ rw (concatMap-append (flat j) (t .1) (u .1)) (simp (append-assoc, append-nil))
 
   module _ (pa qa pb qb : ℕ) (ea : spanAt d (suc j) a 0 m ≡ some (pa, qa)) (eb : spanAt d (suc j) b 0 m ≡ some (pb, qb)) where
     abbrev sa : Stands d (suc j) a 0 m pa qa
@@ -123,14 +123,14 @@ module _ (d j : ℕ) (a b : List ℕ) (la : length a ≡ suc d) (lb : length b �
     -- the second, where the first has grown
     module _ (e : same a b ≡ false) where
       abbrev kids : List Words
-      kids = bind (flat j) (sb .branch .1)
+      kids = concatMap (flat j) (sb .branch .1)
 
       stood : Stood d (suc j) b 0 (grown (sa .branch) (sb .branch)) (sb .branch)
       stood = span-some d (suc j) b 0 (grown (sa .branch) (sb .branch)) (sb .branch) (still (sa .branch) (sb .branch) (sa .there) (sb .there) e)
 
       more : pa + size (suc j) (sa .branch .0, sa .branch .1 ++ sb .branch .1) ≡ qa + length kids
       unfolding flat
-      more = omega (arith, sa .last, length-append (bind (flat j) (sa .branch .1)) kids, ap length (bind-append (flat j) (sa .branch .1) (sb .branch .1)))
+      more = omega (arith, sa .last, length-append (concatMap (flat j) (sa .branch .1)) kids, ap length (concatMap-append (flat j) (sa .branch .1) (sb .branch .1)))
 
       order : Apart d (suc j) b 0 (length kids) (grown (sa .branch) (sb .branch)) pa qa pb qb
       order = apart d (suc j) a b 0 (length kids) m _ pa qa pb qb la lb e more ea eb

@@ -5,35 +5,35 @@ use mathlib.Core.Bool.{Bool, true, false, _&&_, _||_, cond}
 use mathlib.Core.List.{List, [], _∷_, _++_, map}
 use native.Mathlib.Omega.{arith}
 use lib.ListN.{length}
-use Rattle.machine.specs.Lists.{any, keep, those, along, same}
+use Rattle.machine.specs.Lists.{any, keep, filter, concatMapFrom, same}
 use Rattle.machine.specs.Demand.{Rising, shared}
 use Rattle.laws.specs.Lists.{All, All-map, All-append, same-true, same-refl}
 
 module _ {A : Type 0} where
-  pub those-same : (p q : A → Bool) → ((x : A) → p x ≡ q x) → (xs : List A) → those p xs ≡ those q xs
-  those-same p q f [] = refl
-  those-same p q f (x ∷ xs) = rw (f x, those-same p q f xs)
+  pub filter-same : (p q : A → Bool) → ((x : A) → p x ≡ q x) → (xs : List A) → filter p xs ≡ filter q xs
+  filter-same p q f [] = refl
+  filter-same p q f (x ∷ xs) = rw (f x, filter-same p q f xs)
 
-  pub those-all : (xs : List A) → those (λ x. true) xs ≡ xs
-  those-all [] = refl
-  those-all (x ∷ xs) = rw (those-all xs)
+  pub filter-all : (xs : List A) → filter (λ x. true) xs ≡ xs
+  filter-all [] = refl
+  filter-all (x ∷ xs) = rw (filter-all xs)
 
-  pub those-both : (p q : A → Bool) (xs : List A) → length (those p xs) + length (those q xs) ≡ length (those (λ x. p x && q x) xs) + length (those (λ x. p x || q x) xs)
-  those-both p q [] = refl
-  those-both p q (x ∷ xs) = go (p x) (q x) (those-both p q xs)
+  pub filter-both : (p q : A → Bool) (xs : List A) → length (filter p xs) + length (filter q xs) ≡ length (filter (λ x. p x && q x) xs) + length (filter (λ x. p x || q x) xs)
+  filter-both p q [] = refl
+  filter-both p q (x ∷ xs) = go (p x) (q x) (filter-both p q xs)
     where
-      go : (a b : Bool) → length (those p xs) + length (those q xs) ≡ length (those (λ x. p x && q x) xs) + length (those (λ x. p x || q x) xs)
-          → length (keep a x (those p xs)) + length (keep b x (those q xs)) ≡ length (keep (a && b) x (those (λ x. p x && q x) xs)) + length (keep (a || b) x (those (λ x. p x || q x) xs))
+      go : (a b : Bool) → length (filter p xs) + length (filter q xs) ≡ length (filter (λ x. p x && q x) xs) + length (filter (λ x. p x || q x) xs)
+          → length (keep a x (filter p xs)) + length (keep b x (filter q xs)) ≡ length (keep (a && b) x (filter (λ x. p x && q x) xs)) + length (keep (a || b) x (filter (λ x. p x || q x) xs))
       go true true h = omega arith
       go true false h = omega arith
       go false true h = omega arith
       go false false h = omega arith
 
-  pub those-append : (p : A → Bool) (xs ys : List A) → those p (xs ++ ys) ≡ those p xs ++ those p ys
-  those-append p [] ys = refl
-  those-append p (x ∷ xs) ys = go (p x) (those-append p xs ys)
+  pub filter-append : (p : A → Bool) (xs ys : List A) → filter p (xs ++ ys) ≡ filter p xs ++ filter p ys
+  filter-append p [] ys = refl
+  filter-append p (x ∷ xs) ys = go (p x) (filter-append p xs ys)
     where
-      go : (b : Bool) → those p (xs ++ ys) ≡ those p xs ++ those p ys → keep b x (those p (xs ++ ys)) ≡ keep b x (those p xs) ++ those p ys
+      go : (b : Bool) → filter p (xs ++ ys) ≡ filter p xs ++ filter p ys → keep b x (filter p (xs ++ ys)) ≡ keep b x (filter p xs) ++ filter p ys
       go true e = rw e
       go false e = e
 
@@ -41,14 +41,14 @@ module _ {A : Type 0} where
   keep-All P true x xs h g = (h, g)
   keep-All P false x xs h g = g
 
-  pub those-All : (P : A → Type 0) (p : A → Bool) (xs : List A) → All P xs → All P (those p xs)
-  those-All P p [] h = tt
-  those-All P p (x ∷ xs) h = keep-All P (p x) x (those p xs) (h .0) (those-All P p xs (h .1))
+  pub filter-All : (P : A → Type 0) (p : A → Bool) (xs : List A) → All P xs → All P (filter p xs)
+  filter-All P p [] h = tt
+  filter-All P p (x ∷ xs) h = keep-All P (p x) x (filter p xs) (h .0) (filter-All P p xs (h .1))
 
 module _ {A B : Type 0} where
-  pub All-along : (P : B → Type 0) (size : A → ℕ) (f : ℕ → A → List B) → ((n : ℕ) (x : A) → All P (f n x)) → (n : ℕ) (xs : List A) → All P (along size f n xs)
-  All-along P size f h n [] = tt
-  All-along P size f h n (x ∷ xs) = All-append P (f n x) (along size f (n + size x) xs) (h n x) (All-along P size f h (n + size x) xs)
+  pub All-concatMapFrom : (P : B → Type 0) (size : A → ℕ) (f : ℕ → A → List B) → ((n : ℕ) (x : A) → All P (f n x)) → (n : ℕ) (xs : List A) → All P (concatMapFrom size f n xs)
+  All-concatMapFrom P size f h n [] = tt
+  All-concatMapFrom P size f h n (x ∷ xs) = All-append P (f n x) (concatMapFrom size f (n + size x) xs) (h n x) (All-concatMapFrom P size f h (n + size x) xs)
 
 -- ---- strictly rising numbers, from a on and below b
 
@@ -76,13 +76,13 @@ module _ {A : Type 0} (f : A → List ℕ) (key : List ℕ → ℕ) where
   abbrev pub Keyed : ℕ → ℕ → List A → Type 0
   Keyed a b xs = Rises a b (map (λ x. key (f x)) xs)
 
-  pub keyed-those : (p : A → Bool) (a b : ℕ) (xs : List A) → Keyed a b xs → Keyed a b (those p xs)
-  keyed-those p a b [] h = h
-  keyed-those p a b (x ∷ xs) h = go (p x) (keyed-those p (suc (key (f x))) b xs (h .1))
+  pub keyed-filter : (p : A → Bool) (a b : ℕ) (xs : List A) → Keyed a b xs → Keyed a b (filter p xs)
+  keyed-filter p a b [] h = h
+  keyed-filter p a b (x ∷ xs) h = go (p x) (keyed-filter p (suc (key (f x))) b xs (h .1))
     where
-      go : (c : Bool) → Keyed (suc (key (f x))) b (those p xs) → Keyed a b (keep c x (those p xs))
+      go : (c : Bool) → Keyed (suc (key (f x))) b (filter p xs) → Keyed a b (keep c x (filter p xs))
       go true k = (h .0, k)
-      go false k = rises-from a (suc (key (f x))) b (map (λ y. key (f y)) (those p xs)) (let g = h .0 in omega arith) k
+      go false k = rises-from a (suc (key (f x))) b (map (λ y. key (f y)) (filter p xs)) (let g = h .0 in omega arith) k
 
   keyed-above : (a b : ℕ) (xs : List A) → Keyed a b xs → All (λ h. a ≤ key h) (map f xs)
   keyed-above a b [] h = tt
@@ -107,7 +107,7 @@ module _ {A : Type 0} (f : A → List ℕ) (key : List ℕ → ℕ) where
   none-of g (h ∷ hs) a = rw (apart g h (a .0)) (none-of g hs (a .1))
 
   -- a hit below all of them is shared with none
-  pass : (g : List ℕ) (ms hs : List (List ℕ)) → All (λ h. suc (key g) ≤ key h) hs → those (λ h. any (same h) (g ∷ ms)) hs ≡ those (λ h. any (same h) ms) hs
+  pass : (g : List ℕ) (ms hs : List (List ℕ)) → All (λ h. suc (key g) ≤ key h) hs → filter (λ h. any (same h) (g ∷ ms)) hs ≡ filter (λ h. any (same h) ms) hs
   pass g ms [] a = refl
   pass g ms (h ∷ hs) a = rw (apart′ g h (a .0), pass g ms hs (a .1))
 
@@ -124,21 +124,21 @@ module _ {A : Type 0} (f : A → List ℕ) (key : List ℕ → ℕ) (p q : A →
   map-keep true x xs = refl
   map-keep false x xs = refl
 
-  pub shared-those : (a b : ℕ) (xs : List A) → Keyed f key a b xs → shared (map f (those p xs)) (map f (those q xs)) ≡ map f (those (λ x. p x && q x) xs)
+  pub shared-filter : (a b : ℕ) (xs : List A) → Keyed f key a b xs → shared (map f (filter p xs)) (map f (filter q xs)) ≡ map f (filter (λ x. p x && q x) xs)
   unfolding shared
-  shared-those a b [] h = refl
-  shared-those a b (x ∷ xs) h =
-      let u = keyed-above f key (suc (key (f x))) b (those p xs) (keyed-those f key p (suc (key (f x))) b xs (h .1)) in
-      let w = keyed-above f key (suc (key (f x))) b (those q xs) (keyed-those f key q (suc (key (f x))) b xs (h .1)) in
-      rw (map-keep (p x) x (those p xs), map-keep (q x) x (those q xs), map-keep (p x && q x) x (those (λ x. p x && q x) xs))
-      (shared-step x (map f (those p xs)) (map f (those q xs)) (map f (those (λ x. p x && q x) xs)) u w (shared-those (suc (key (f x))) b xs (h .1)) (p x) (q x))
+  shared-filter a b [] h = refl
+  shared-filter a b (x ∷ xs) h =
+      let u = keyed-above f key (suc (key (f x))) b (filter p xs) (keyed-filter f key p (suc (key (f x))) b xs (h .1)) in
+      let w = keyed-above f key (suc (key (f x))) b (filter q xs) (keyed-filter f key q (suc (key (f x))) b xs (h .1)) in
+      rw (map-keep (p x) x (filter p xs), map-keep (q x) x (filter q xs), map-keep (p x && q x) x (filter (λ x. p x && q x) xs))
+      (shared-step x (map f (filter p xs)) (map f (filter q xs)) (map f (filter (λ x. p x && q x) xs)) u w (shared-filter (suc (key (f x))) b xs (h .1)) (p x) (q x))
 
   -- in at least one
-  pub any-those : (g : List ℕ) (xs : List A) → any (same g) (map f (those (λ x. p x || q x) xs)) ≡ (any (same g) (map f (those p xs)) || any (same g) (map f (those q xs)))
-  any-those g [] = refl
-  any-those g (x ∷ xs) =
-      rw (map-keep (p x) x (those p xs), map-keep (q x) x (those q xs), map-keep (p x || q x) x (those (λ x. p x || q x) xs))
-      (go (p x) (q x) (map f (those (λ x. p x || q x) xs)) (map f (those p xs)) (map f (those q xs)) (any-those g xs))
+  pub any-filter : (g : List ℕ) (xs : List A) → any (same g) (map f (filter (λ x. p x || q x) xs)) ≡ (any (same g) (map f (filter p xs)) || any (same g) (map f (filter q xs)))
+  any-filter g [] = refl
+  any-filter g (x ∷ xs) =
+      rw (map-keep (p x) x (filter p xs), map-keep (q x) x (filter q xs), map-keep (p x || q x) x (filter (λ x. p x || q x) xs))
+      (go (p x) (q x) (map f (filter (λ x. p x || q x) xs)) (map f (filter p xs)) (map f (filter q xs)) (any-filter g xs))
     where
       within : (a b c r s : Bool) → cond (a || b) (c || (r || s)) (r || s) ≡ (cond a (c || r) r || cond b (c || s) s)
       within true true true r s = refl

@@ -9,9 +9,9 @@ use lib.ListN.{length, take, drop, length-append}
 use lib.Seq.{take-at, drop-at, take-add}
 use lib.Dec.{eqb}
 use borrow.Author.Tests.{eq-eqb, ne-eqb}
-use Rattle.machine.specs.Lists.{bind}
+use Rattle.machine.specs.Lists.{concatMap}
 use Rattle.machine.specs.Record.{Fields, Words, words, kind, fieldsOf, goodFields, goodRecord}
-use Rattle.machine.specs.Store.{Branch, Machine, flat, records, chunks, cut, group}
+use Rattle.machine.specs.Store.{Branch, Machine, flat, records, chunks, sections, group}
 use Rattle.laws.specs.Lists.{same-refl, All, All-map, All-append}
 
 -- ---- one record
@@ -46,9 +46,9 @@ words-good k l f = rw (fields-words k l f, same-refl (words k f))
 -- ---- every record of a branch
 
 module _ (P : Words → Type 0) where
-  every-in : {A : Type 0} (f : A → List Words) → ((x : A) → All P (f x)) → (xs : List A) → All P (bind f xs)
+  every-in : {A : Type 0} (f : A → List Words) → ((x : A) → All P (f x)) → (xs : List A) → All P (concatMap f xs)
   every-in f h [] = tt
-  every-in f h (x ∷ xs) = All-append P (f x) (bind f xs) (h x) (every-in f h xs)
+  every-in f h (x ∷ xs) = All-append P (f x) (concatMap f xs) (h x) (every-in f h xs)
 
   -- a fact of the records of levels up to n holds throughout a branch of such a level
   every : (n : ℕ) → ((k : ℕ) → k ≤ n → (f : Fields k) → P (words k f)) → (k : ℕ) → k ≤ n → (t : Branch k) → All P (flat k t)
@@ -61,13 +61,13 @@ pub twelve-words : (m : Machine) → All (λ r. length r ≡ 12) (records m)
 twelve-words = every-in (λ r. length r ≡ 12) (flat 4) (every (λ r. length r ≡ 12) 4 words-length 4 (omega arith))
 
 -- the records of branches of level k have kind 5 - k or a higher one
-pub flats-kinds : (h k : ℕ) → h + k ≤ 4 → (ts : List (Branch k)) → All (λ r. h < kind r) (bind (flat k) ts)
+pub flats-kinds : (h k : ℕ) → h + k ≤ 4 → (ts : List (Branch k)) → All (λ r. h < kind r) (concatMap (flat k) ts)
 flats-kinds h k l = every-in (λ r. h < kind r) (flat k) (every (λ r. h < kind r) k (λ j i f. omega (arith, words-kind j (omega arith) f)) k (omega arith))
 
 -- ---- grouped again
 
-cut-over : (p : Words → Bool) (b rest : List Words) → All (λ r. p r ≡ false) b → cut p (b ++ rest) ≡ (b ++ cut p rest .0, cut p rest .1)
-unfolding cut
+cut-over : (p : Words → Bool) (b rest : List Words) → All (λ r. p r ≡ false) b → sections p (b ++ rest) ≡ (b ++ sections p rest .0, sections p rest .1)
+unfolding sections
 cut-over p [] rest h = refl
 cut-over p (r ∷ b) rest h = rw (h .0, cut-over p b rest (h .1))
 
@@ -76,26 +76,26 @@ abbrev pub heads : ℕ → Words → Bool
 heads k r = eqb (kind r) (4 - k)
 
 module _ (k : ℕ) (l : suc k ≤ 4) where
-  cut-flats : (ts : List (Branch (suc k))) → cut (heads k) (bind (flat (suc k)) ts) ≡ ([], map (λ t. (words (suc k) (t .0), bind (flat k) (t .1))) ts)
-  unfolding cut flat
+  cut-flats : (ts : List (Branch (suc k))) → sections (heads k) (concatMap (flat (suc k)) ts) ≡ ([], map (λ t. (words (suc k) (t .0), concatMap (flat k) (t .1))) ts)
+  unfolding sections flat
   cut-flats [] = refl
   cut-flats (t ∷ ts) =
       let e : eqb (kind (words (suc k) (t .0))) (4 - k) ≡ true = eq-eqb (kind (words (suc k) (t .0))) (4 - k) (omega (arith, words-kind (suc k) l (t .0))) in
-      let o : All (λ r. heads k r ≡ false) (bind (flat k) (t .1)) =
-      All-map (λ r h. ne-eqb (kind r) (4 - k) (λ i. omega arith)) (bind (flat k) (t .1)) (flats-kinds (4 - k) k (omega arith) (t .1)) in
-      rw (e, cut-over (heads k) (bind (flat k) (t .1)) (bind (flat (suc k)) ts) o, cut-flats ts, append-nil)
+      let o : All (λ r. heads k r ≡ false) (concatMap (flat k) (t .1)) =
+      All-map (λ r h. ne-eqb (kind r) (4 - k) (λ i. omega arith)) (concatMap (flat k) (t .1)) (flats-kinds (4 - k) k (omega arith) (t .1)) in
+      rw (e, cut-over (heads k) (concatMap (flat k) (t .1)) (concatMap (flat (suc k)) ts) o, cut-flats ts, append-nil)
 
 map-back : {A B : Type 0} (f : B → A) (g : A → B) → ((x : A) → f (g x) ≡ x) → (xs : List A) → map f (map g xs) ≡ xs
 map-back f g h [] = refl
 map-back f g h (x ∷ xs) = rw (h x, map-back f g h xs)
 
-atoms-back : (ts : List (Branch 0)) → map (fieldsOf 0) (bind (flat 0) ts) ≡ ts
+atoms-back : (ts : List (Branch 0)) → map (fieldsOf 0) (concatMap (flat 0) ts) ≡ ts
 unfolding flat
 atoms-back [] = refl
 atoms-back (t ∷ ts) = rw (fields-words 0 (omega arith) t, atoms-back ts)
 
 -- the records of branches group to those branches
-pub group-flats : (k : ℕ) → k ≤ 4 → (ts : List (Branch k)) → group k (bind (flat k) ts) ≡ ts
+pub group-flats : (k : ℕ) → k ≤ 4 → (ts : List (Branch k)) → group k (concatMap (flat k) ts) ≡ ts
 unfolding group flat
 group-flats zero l ts = atoms-back ts
 group-flats (suc k) l ts =
@@ -105,7 +105,7 @@ group-flats (suc k) l ts =
 
 -- the records' words, one after the other
 abbrev pub concat : List Words → List ℕ
-concat rs = bind (λ (r : Words). r) rs
+concat rs = concatMap (λ (r : Words). r) rs
 
 pub concat-length : (rs : List Words) → All (λ r. length r ≡ 12) rs → length (concat rs) ≡ 12 * length rs
 concat-length [] a = refl

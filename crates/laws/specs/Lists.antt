@@ -8,7 +8,7 @@ use native.Mathlib.Omega.{arith}
 use lib.ListN.{length, length-append}
 use lib.Dec.{eqb}
 use borrow.Author.Tests.{eqb-true, eq-eqb}
-use Rattle.machine.specs.Lists.{all, sum, bind, andThen, same}
+use Rattle.machine.specs.Lists.{all, sum, concatMap, andThen, same}
 
 pub and-both : (a b : Bool) → a && b ≡ true → (a ≡ true) × (b ≡ true)
 and-both true b h = (refl, h)
@@ -64,27 +64,27 @@ module _ {A : Type 0} where
   All-right P [] ys h = h
   All-right P (x ∷ xs) ys h = All-right P xs ys (h .1)
 
-  pub bind-one : (xs : List A) → bind (λ (x : A). x ∷ []) xs ≡ xs
-  bind-one [] = refl
-  bind-one (x ∷ xs) = rw (bind-one xs)
+  pub concatMap-one : (xs : List A) → concatMap (λ (x : A). x ∷ []) xs ≡ xs
+  concatMap-one [] = refl
+  concatMap-one (x ∷ xs) = rw (concatMap-one xs)
 
   pub sum-append : (f : A → ℕ) (xs ys : List A) → sum f (xs ++ ys) ≡ sum f xs + sum f ys
   sum-append f [] ys = omega arith
   sum-append f (x ∷ xs) ys = let e = sum-append f xs ys in omega arith
 
 module _ {A B : Type 0} where
-  pub All-bind : (P : B → Type 0) (f : A → List B) (xs : List A) → All (λ x. All P (f x)) xs → All P (bind f xs)
-  All-bind P f [] h = tt
-  All-bind P f (x ∷ xs) h = All-append P (f x) (bind f xs) (h .0) (All-bind P f xs (h .1))
+  pub All-concatMap : (P : B → Type 0) (f : A → List B) (xs : List A) → All (λ x. All P (f x)) xs → All P (concatMap f xs)
+  All-concatMap P f [] h = tt
+  All-concatMap P f (x ∷ xs) h = All-append P (f x) (concatMap f xs) (h .0) (All-concatMap P f xs (h .1))
 
   pub All-over : (P : B → Type 0) (f : A → B) (xs : List A) → All (λ x. P (f x)) xs → All P (map f xs)
   All-over P f [] h = tt
   All-over P f (x ∷ xs) h = (h .0, All-over P f xs (h .1))
 
-  pub bind-append : (f : A → List B) (xs ys : List A) → bind f (xs ++ ys) ≡ bind f xs ++ bind f ys
-  bind-append f [] ys = refl
-  bind-append f (x ∷ xs) ys = rw (bind-append f xs ys, append-assoc)
+  pub concatMap-append : (f : A → List B) (xs ys : List A) → concatMap f (xs ++ ys) ≡ concatMap f xs ++ concatMap f ys
+  concatMap-append f [] ys = refl
+  concatMap-append f (x ∷ xs) ys = rw (concatMap-append f xs ys, append-assoc)
 
-  pub length-bind : (f : A → List B) (xs : List A) → length (bind f xs) ≡ sum (λ x. length (f x)) xs
-  length-bind f [] = refl
-  length-bind f (x ∷ xs) = let e = length-bind f xs in omega (arith, length-append (f x) (bind f xs))
+  pub length-concatMap : (f : A → List B) (xs : List A) → length (concatMap f xs) ≡ sum (λ x. length (f x)) xs
+  length-concatMap f [] = refl
+  length-concatMap f (x ∷ xs) = let e = length-concatMap f xs in omega (arith, length-append (f x) (concatMap f xs))

@@ -6,9 +6,9 @@ use mathlib.Core.List.{List, [], _∷_, _++_, map, append-assoc, append-nil}
 use native.Mathlib.Omega.{arith}
 use lib.Dec.{leb}
 use borrow.Author.Tests.{eqb-true, eqb-false, leb-true, le-leb}
-use Rattle.machine.specs.Lists.{all, bind, same}
+use Rattle.machine.specs.Lists.{all, concatMap, same}
 use Rattle.machine.specs.Record.{Fields, Words, words, kind, fieldsOf, goodFields, goodRecord}
-use Rattle.machine.specs.Store.{Branch, Machine, flat, records, inOrder, Cut, cutStep, cut, group}
+use Rattle.machine.specs.Store.{Branch, Machine, flat, records, inOrder, Sections, addToSections, sections, group}
 use Rattle.laws.specs.Lists.{and-both, and-true, same-true, All}
 use Rattle.laws.specs.Good.{goodBranch}
 use Rattle.laws.specs.Grouped.{words-kind, words-good, heads}
@@ -53,18 +53,18 @@ words-order k l f g rs o q s =
 abbrev After : ℕ → List Words → Type 0
 After j rs = (q : ℕ) → j ≤ q + 1 → inOrder q rs ≡ true
 
-after-all : {A : Type 0} (f : A → List Words) (p : A → Bool) (j : ℕ) → ((x : A) → p x ≡ true → (rest : List Words) → After j rest → After j (f x ++ rest)) → (xs : List A) → all p xs ≡ true → (rest : List Words) → After j rest → After j (bind f xs ++ rest)
+after-all : {A : Type 0} (f : A → List Words) (p : A → Bool) (j : ℕ) → ((x : A) → p x ≡ true → (rest : List Words) → After j rest → After j (f x ++ rest)) → (xs : List A) → all p xs ≡ true → (rest : List Words) → After j rest → After j (concatMap f xs ++ rest)
 after-all f p j h [] g rest a = a
 after-all f p j h (x ∷ xs) g rest a =
     let b = and-both (p x) (all p xs) g in
-    rw append-assoc (h x (b .0) (bind f xs ++ rest) (after-all f p j h xs (b .1) rest a))
+    rw append-assoc (h x (b .0) (concatMap f xs ++ rest) (after-all f p j h xs (b .1) rest a))
 
 after-flat : (k : ℕ) → k ≤ 4 → (t : Branch k) → goodBranch k t ≡ true → (rest : List Words) → After (5 - k) rest → After (5 - k) (flat k t ++ rest)
 unfolding goodBranch flat
 after-flat zero l t g rest a = words-order zero l t g rest (a 5 (omega arith))
 after-flat (suc k) l t g rest a =
     let b = and-both (goodFields (suc k) (t .0)) (all (goodBranch k) (t .1)) g in
-    words-order (suc k) l (t .0) (b .0) (bind (flat k) (t .1) ++ rest)
+    words-order (suc k) l (t .0) (b .0) (concatMap (flat k) (t .1) ++ rest)
     (after-all (flat k) (goodBranch k) (5 - k) (after-flat k (omega arith)) (t .1) (b .1) rest (λ q i. a q (omega arith)) (5 - suc k) (omega arith))
 
 pub records-order : (m : Machine) → all (goodBranch 4) m ≡ true → inOrder 0 (records m) ≡ true
@@ -81,11 +81,11 @@ Under k q rs = (inOrder q rs ≡ true) × All (λ r. 5 ≤ kind r + k) rs
 abbrev Part : ℕ → Words × List Words → Type 0
 Part k x = (goodRecord (suc k) (x .0) ≡ true) × Under k (4 - k) (x .1)
 
-abbrev Cuts : ℕ → ℕ → Cut → Type 0
+abbrev Cuts : ℕ → ℕ → Sections → Type 0
 Cuts k q c = Under k q (c .0) × All (Part k) (c .1)
 
 module _ (k : ℕ) (l : suc k ≤ 4) where
-  cut-step : (q : ℕ) (r : Words) (rs : List Words) (c : Cut) → HeadParts q r rs → 5 ≤ kind r + suc k → Cuts k (kind r) c → (b : Bool) → heads k r ≡ b → Cuts k q (cutStep b r c)
+  cut-step : (q : ℕ) (r : Words) (rs : List Words) (c : Sections) → HeadParts q r rs → 5 ≤ kind r + suc k → Cuts k (kind r) c → (b : Bool) → heads k r ≡ b → Cuts k q (addToSections b r c)
   unfolding inOrder
   cut-step q r rs c p a i true e =
       let h : kind r ≡ 4 - k = eqb-true _ _ e in
@@ -96,12 +96,12 @@ module _ (k : ℕ) (l : suc k ≤ 4) where
       let o = parts-head q r (c .0) record { least = p .least; most = p .most; step = p .step; good = p .good; rest = i .0 .0 } in
       ((o, (omega arith, i .0 .1)), i .1)
 
-  cut-parts : (q : ℕ) (rs : List Words) → Under (suc k) q rs → Cuts k q (cut (heads k) rs)
-  unfolding cut inOrder
+  cut-parts : (q : ℕ) (rs : List Words) → Under (suc k) q rs → Cuts k q (sections (heads k) rs)
+  unfolding sections inOrder
   cut-parts q [] u = ((refl, tt), tt)
   cut-parts q (r ∷ rs) u =
       let p = head-parts q r rs (u .0) in
-      cut-step q r rs (cut (heads k) rs) p (u .1 .0) (cut-parts (kind r) rs (p .rest, u .1 .1)) (heads k r) refl
+      cut-step q r rs (sections (heads k) rs) p (u .1 .0) (cut-parts (kind r) rs (p .rest, u .1 .1)) (heads k r) refl
 
   no-lead : (q : ℕ) (rs : List Words) → q + suc k ≤ 4 → Under k q rs → rs ≡ []
   no-lead q [] s u = refl
@@ -110,12 +110,12 @@ module _ (k : ℕ) (l : suc k ≤ 4) where
 abbrev whole : Words × List Words → List Words
 whole x = x .0 ∷ x .1
 
-cut-whole : (p : Words → Bool) (rs : List Words) → cut p rs .0 ++ bind whole (cut p rs .1) ≡ rs
-unfolding cut
+cut-whole : (p : Words → Bool) (rs : List Words) → sections p rs .0 ++ concatMap whole (sections p rs .1) ≡ rs
+unfolding sections
 cut-whole p [] = refl
-cut-whole p (r ∷ rs) = go (p r) (cut p rs) (cut-whole p rs)
+cut-whole p (r ∷ rs) = go (p r) (sections p rs) (cut-whole p rs)
   where
-    go : (b : Bool) (c : Cut) → c .0 ++ bind whole (c .1) ≡ rs → cutStep b r c .0 ++ bind whole (cutStep b r c .1) ≡ r ∷ rs
+    go : (b : Bool) (c : Sections) → c .0 ++ concatMap whole (c .1) ≡ rs → addToSections b r c .0 ++ concatMap whole (addToSections b r c .1) ≡ r ∷ rs
     go true c e = rw e
     go false c e = rw e
 
@@ -127,7 +127,7 @@ record-parts k r g =
 
 -- rs are the records of the good branches that they group to
 record Groups (k : ℕ) (rs : List Words) : Type 0 where
-  back : bind (flat k) (group k rs) ≡ rs
+  back : concatMap (flat k) (group k rs) ≡ rs
   good : all (goodBranch k) (group k rs) ≡ true
 
 atoms-grouped : (q : ℕ) (rs : List Words) → Under 0 q rs → Groups 0 rs
@@ -144,7 +144,7 @@ abbrev branches : (k : ℕ) → List (Words × List Words) → List (Branch (suc
 branches k xs = map (λ x. (fieldsOf (suc k) (x .0), group k (x .1))) xs
 
 -- the same for parts, from what their children's records group to
-parts-grouped : (k : ℕ) → ((rs : List Words) → Under k (4 - k) rs → Groups k rs) → (xs : List (Words × List Words)) → All (Part k) xs → (bind (flat (suc k)) (branches k xs) ≡ bind whole xs) × (all (goodBranch (suc k)) (branches k xs) ≡ true)
+parts-grouped : (k : ℕ) → ((rs : List Words) → Under k (4 - k) rs → Groups k rs) → (xs : List (Words × List Words)) → All (Part k) xs → (concatMap (flat (suc k)) (branches k xs) ≡ concatMap whole xs) × (all (goodBranch (suc k)) (branches k xs) ≡ true)
 unfolding flat goodBranch
 parts-grouped k f [] a = (refl, refl)
 parts-grouped k f (x ∷ xs) a =
@@ -158,8 +158,8 @@ unfolding group
 grouped zero l q s rs u = atoms-grouped q rs u
 grouped (suc k) l q s rs u =
     let c = cut-parts k l q rs u in
-    let i = parts-grouped k (grouped k (omega arith) (4 - k) (omega arith)) (cut (heads k) rs .1) (c .1) in
-    let w : bind whole (cut (heads k) rs .1) ≡ rs = rw (no-lead k l q (cut (heads k) rs .0) s (c .0)) at (cut-whole (heads k) rs) in
+    let i = parts-grouped k (grouped k (omega arith) (4 - k) (omega arith)) (sections (heads k) rs .1) (c .1) in
+    let w : concatMap whole (sections (heads k) rs .1) ≡ rs = rw (no-lead k l q (sections (heads k) rs .0) s (c .0)) at (cut-whole (heads k) rs) in
     record { back = i .0 ∙ w; good = i .1 }
 
 kinds : (q : ℕ) (rs : List Words) → inOrder q rs ≡ true → All (λ r. 5 ≤ kind r + 4) rs

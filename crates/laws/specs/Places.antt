@@ -8,11 +8,11 @@ use native.Mathlib.Omega.{arith}
 use lib.ListN.{length}
 use lib.Dec.{eqb}
 use borrow.Author.Tests.{eqb-true, eqb-false, eq-eqb}
-use Rattle.machine.specs.Lists.{all, sum, bind, nth, splice, andThen, same}
+use Rattle.machine.specs.Lists.{all, sum, concatMap, nth, splice, andThen, same}
 use Rattle.machine.specs.Record.{Words, words, goodFields}
 use Rattle.machine.specs.Store.{Branch, flat, atomCount}
 use Rattle.machine.specs.Edit.{up, branchAt, replaceAt}
-use Rattle.laws.specs.Lists.{and-both, and-true, and-then, All-of, all-of, All-append, sum-append, bind-append, length-bind}
+use Rattle.laws.specs.Lists.{and-both, and-true, and-then, All-of, all-of, All-append, sum-append, concatMap-append, length-concatMap}
 use Rattle.laws.specs.Good.{goodBranch}
 
 -- ---- one index
@@ -90,7 +90,7 @@ pub record Measure : Type 0 where
 
 pub flat-splits : (k : ℕ) (t : Branch (suc k)) → length (flat (suc k) t) ≡ 1 + sum (λ u. length (flat k u)) (t .1)
 unfolding flat
-flat-splits k t = omega (arith, length-bind (flat k) (t .1))
+flat-splits k t = omega (arith, length-concatMap (flat k) (t .1))
 
 pub atom-splits : (k : ℕ) (t : Branch (suc k)) → atomCount (suc k) t ≡ 0 + sum (atomCount k) (t .1)
 unfolding atomCount
@@ -158,8 +158,8 @@ branch-good (suc d) j (i ∷ is) ts t e h =
 pub record Spot (d j : ℕ) (pos : List ℕ) (ts : List (Branch (up d j))) (t : Branch j) : Type 0 where
   pub pre : List Words
   pub post : List Words
-  pub was : bind (flat (up d j)) ts ≡ pre ++ (flat j t ++ post)
-  pub is : (new : List (Branch j)) → bind (flat (up d j)) (replaceAt d j pos new ts) ≡ pre ++ (bind (flat j) new ++ post)
+  pub was : concatMap (flat (up d j)) ts ≡ pre ++ (flat j t ++ post)
+  pub is : (new : List (Branch j)) → concatMap (flat (up d j)) (replaceAt d j pos new ts) ≡ pre ++ (concatMap (flat j) new ++ post)
 
 pub spot : (d j : ℕ) (pos : List ℕ) (ts : List (Branch (up d j))) (t : Branch j) → branchAt d j pos ts ≡ some t → Spot d j pos ts t
 unfolding branchAt replaceAt flat
@@ -167,10 +167,10 @@ spot d j [] ts t e = absurd (no-branch d j ts t e)
 spot zero j (i ∷ is) ts t e =
     let a = around i ts t e in
     record {
-      pre = bind (flat j) (a .before);
-      post = bind (flat j) (a .after);
-      was = ap (bind (flat j)) (a .was) ∙ bind-append (flat j) (a .before) (t ∷ a .after);
-      is = λ new. ap (bind (flat j)) (a .is (λ u. new)) ∙ simp bind-append;
+      pre = concatMap (flat j) (a .before);
+      post = concatMap (flat j) (a .after);
+      was = ap (concatMap (flat j)) (a .was) ∙ concatMap-append (flat j) (a .before) (t ∷ a .after);
+      is = λ new. ap (concatMap (flat j)) (a .is (λ u. new)) ∙ simp concatMap-append;
     }
 spot (suc d) j (i ∷ is) ts t e =
     let k = suc (up d j) in
@@ -179,10 +179,10 @@ spot (suc d) j (i ∷ is) ts t e =
     let a = around i ts u (s .1) in
     let below = spot d j is (u .1) t (s .2) in
     record {
-      pre = bind (flat k) (a .before) ++ (words k (u .0) ∷ below .pre);
-      post = below .post ++ bind (flat k) (a .after);
-      was = ap (bind (flat k)) (a .was) ∙ bind-append (flat k) (a .before) (u ∷ a .after) ∙ rw (below .was) (simp append-assoc);
-      is = λ new. ap (bind (flat k)) (a .is (λ v. (v .0, replaceAt d j is new (v .1)) ∷ [])) ∙ bind-append (flat k) (a .before) _ ∙ rw (below .is new) (simp append-assoc);
+      pre = concatMap (flat k) (a .before) ++ (words k (u .0) ∷ below .pre);
+      post = below .post ++ concatMap (flat k) (a .after);
+      was = ap (concatMap (flat k)) (a .was) ∙ concatMap-append (flat k) (a .before) (u ∷ a .after) ∙ rw (below .was) (simp append-assoc);
+      is = λ new. ap (concatMap (flat k)) (a .is (λ v. (v .0, replaceAt d j is new (v .1)) ∷ [])) ∙ concatMap-append (flat k) (a .before) _ ∙ rw (below .is new) (simp append-assoc);
     }
 
 -- ---- another position

@@ -9,7 +9,7 @@ use lib.ListN.{length, take, length-append}
 use lib.Seq.{take-append-le, take-all}
 use lib.Dec.{eqb}
 use borrow.Author.Tests.{lt-leb, ne-eqb}
-use Rattle.machine.specs.Lists.{keep, bind, along}
+use Rattle.machine.specs.Lists.{keep, concatMap, concatMapFrom}
 use Rattle.machine.specs.Record.{Fields, Words, words, kind, fieldsOf}
 use Rattle.machine.specs.Store.{Branch, Machine, flat, records}
 use Rattle.machine.specs.Query.{Place, window}
@@ -108,13 +108,13 @@ ends-more g h l [] e = tt
 ends-more g h l (r ∷ rs) e = omega arith
 
 -- branches, and what may follow them, start with a kind of at most their own
-pub ends-flats : (h k : ℕ) → h + k ≡ 5 → k ≤ 4 → (ts : List (Branch k)) (rest : List Words) → Ends h rest → Ends h (bind (flat k) ts ++ rest)
+pub ends-flats : (h k : ℕ) → h + k ≡ 5 → k ≤ 4 → (ts : List (Branch k)) (rest : List Words) → Ends h rest → Ends h (concatMap (flat k) ts ++ rest)
 unfolding flat
 ends-flats h k level l [] rest e = e
 ends-flats h zero level l (t ∷ ts) rest e = omega (arith, words-kind zero l t)
 ends-flats h (suc k) level l (t ∷ ts) rest e = omega (arith, words-kind (suc k) l (t .0))
 
-pub ends-branches : (h k : ℕ) → h + k ≡ 5 → k ≤ 4 → (ts : List (Branch k)) → Ends h (bind (flat k) ts)
+pub ends-branches : (h k : ℕ) → h + k ≡ 5 → k ≤ 4 → (ts : List (Branch k)) → Ends h (concatMap (flat k) ts)
 ends-branches h k level l ts = rw append-nil at (ends-flats h k level l ts [] tt)
 
 -- what a pass over a branch and a rest finds
@@ -122,10 +122,10 @@ abbrev Passes : (k : ℕ) → Branch k → Type 0
 Passes k t = (s : Site) → Over k s → (n : ℕ) (rest : List Words) → Ends (5 - k) rest → scan n s (flat k t ++ rest) ≡ atomsIn k s n t ++ scan (n + size k t) s rest
 
 scan-flats : (k : ℕ) → k ≤ 4 → ((t : Branch k) → Passes k t) → (ts : List (Branch k)) (s : Site) → Over k s → (n : ℕ) (rest : List Words) → Ends (5 - k) rest
-    → scan n s (bind (flat k) ts ++ rest) ≡ along (size k) (atomsIn k s) n ts ++ scan (n + length (bind (flat k) ts)) s rest
+    → scan n s (concatMap (flat k) ts ++ rest) ≡ concatMapFrom (size k) (atomsIn k s) n ts ++ scan (n + length (concatMap (flat k) ts)) s rest
 scan-flats k l f [] s o n rest e = rw add-zero
 scan-flats k l f (t ∷ ts) s o n rest e =
-    rw (append-assoc (flat k t), f t s o n (bind (flat k) ts ++ rest) (ends-flats (5 - k) k (omega arith) l ts rest e), scan-flats k l f ts s o (n + size k t) rest e, length-append (flat k t), add-assoc n, append-assoc (atomsIn k s n t))
+    rw (append-assoc (flat k t), f t s o n (concatMap (flat k) ts ++ rest) (ends-flats (5 - k) k (omega arith) l ts rest e), scan-flats k l f ts s o (n + size k t) rest e, length-append (flat k t), add-assoc n, append-assoc (atomsIn k s n t))
 
 -- the bridge: a branch's records, then a rest, are the branch's atoms with their places, then what the rest has
 pub scan-branch : (k : ℕ) → k ≤ 4 → (t : Branch k) → Passes k t
@@ -139,9 +139,9 @@ scan-branch (suc k) l t s o n rest e =
     let d = o .depth in
     let b = below (suc k) n (t .0) s in
     let ends : Ends (5 - k) rest = ends-more (5 - suc k) (5 - k) (omega arith) rest e in
-    let i = scan-above (5 - suc k) (suc n + length (bind (flat k) (t .1))) b s rest e (λ g h. above-below (suc k) g l (omega arith) n (t .0) s d) in
-    let j : n + suc (length (bind (flat k) (t .1))) ≡ suc n + length (bind (flat k) (t .1)) = omega arith in
-    scan-words (suc k) n (t .0) s (bind (flat k) (t .1) ++ rest) o
+    let i = scan-above (5 - suc k) (suc n + length (concatMap (flat k) (t .1))) b s rest e (λ g h. above-below (suc k) g l (omega arith) n (t .0) s d) in
+    let j : n + suc (length (concatMap (flat k) (t .1))) ≡ suc n + length (concatMap (flat k) (t .1)) = omega arith in
+    scan-words (suc k) n (t .0) s (concatMap (flat k) (t .1) ++ rest) o
     ∙ rw (ne-eqb (5 - suc k) 5 (λ z. omega arith), j, ← i) (scan-flats k (omega arith) (λ u. scan-branch k (omega arith) u) (t .1) b (over-below k n (t .0) s o) (suc n) rest ends)
 
 pub scan-machine : (m : Machine) → scan 0 top (records m) ≡ atomsOf m

@@ -8,9 +8,9 @@ use native.Mathlib.Omega.{arith}
 use lib.ListN.{length}
 use lib.Dec.{leb, eqb}
 use borrow.Author.Tests.{leb-true, not-true}
-use Rattle.machine.specs.Lists.{isEmpty, orElse, all, sum, keep, those, nth, splice, firstWhere, lastWhere, same}
+use Rattle.machine.specs.Lists.{isEmpty, orElse, all, sum, keep, filter, nth, splice, firstWhere, lastWhere, same}
 use Rattle.machine.specs.Answer.{Result, ok, refused, _>>=_, _>>_, need, refusalNumber}
-use Rattle.machine.specs.Text.{Optional, chainId, insertionCode, conformerName, alternativeLocation, atomName, plain, trim, raise, pack, fit, raised, byFlag, optional, storedBy, absentOr}
+use Rattle.machine.specs.Text.{Optional, chainId, insertionCode, conformerName, alternativeLocation, atomName, plain, trim, toUpper, pack, fit, uppercaseOr, byFlag, optional, storedBy, absentOr}
 use Rattle.machine.specs.Record.{Fields, goodFields, goodValues}
 use Rattle.machine.specs.Store.{Branch, Machine, records, flat, stored, capacity, atomCount}
 use Rattle.machine.specs.Query.{readTree}
@@ -22,7 +22,7 @@ use Rattle.machine.specs.declared.Name.the-variants.{ChainId, InsertionCode, Co
 use Rattle.machine.specs.declared.Prepared.{Prepared}
 use Rattle.machine.specs.declared.Prepared.the-variants.{Stored, Absent, Bad}
 use Rattle.machine.specs.Demand.{addedBy, removedBy}
-use Rattle.laws.specs.Lists.{and-both, and-true, sum-append, length-bind}
+use Rattle.laws.specs.Lists.{and-both, and-true, sum-append, length-concatMap}
 use Rattle.laws.specs.Good.{goodBranch, Fit}
 use Rattle.laws.specs.Text.{chainId-stored, insertionCode-stored, conformerName-stored, alternativeLocation-stored, atomName-stored}
 use Rattle.laws.specs.Places.{Measure, size, atoms, splice-sum, splice-all, all-append, good-parts, good-children, replace-sum, replace-all, branch-good, branchAt-other}
@@ -38,9 +38,9 @@ module _ {A : Type 0} where
   if-ok : {P : A → Type 0} {x : A} → IfOk P (ok x) → P x
   if-ok (holds h) = h
 
-  if-bind : {B : Type 0} (P : A → Type 0) (r : Result B) (f : B → Result A) → ((x : B) → r ≡ ok x → IfOk P (f x)) → IfOk P (r >>= f)
-  if-bind P (ok x) f h = h x refl
-  if-bind P (refused e) f h = nothing
+  if-concatMap : {B : Type 0} (P : A → Type 0) (r : Result B) (f : B → Result A) → ((x : B) → r ≡ ok x → IfOk P (f x)) → IfOk P (r >>= f)
+  if-concatMap P (ok x) f h = h x refl
+  if-concatMap P (refused e) f h = nothing
 
   if-then : {B : Type 0} (P : A → Type 0) (r : Result B) (q : Result A) → ((x : B) → r ≡ ok x → IfOk P q) → IfOk P (r >> q)
   if-then P (ok x) q h = h x refl
@@ -61,17 +61,17 @@ module _ {A : Type 0} where
   keep-sum μ true x xs = omega arith
   keep-sum μ false x xs = omega arith
 
-  those-sum : (μ : A → ℕ) (p : A → Bool) (xs : List A) → sum μ (those p xs) ≤ sum μ xs
-  those-sum μ p [] = omega arith
-  those-sum μ p (x ∷ xs) = omega (arith, keep-sum μ (p x) x (those p xs), those-sum μ p xs)
+  filter-sum : (μ : A → ℕ) (p : A → Bool) (xs : List A) → sum μ (filter p xs) ≤ sum μ xs
+  filter-sum μ p [] = omega arith
+  filter-sum μ p (x ∷ xs) = omega (arith, keep-sum μ (p x) x (filter p xs), filter-sum μ p xs)
 
   keep-all : (q : A → Bool) (b : Bool) (x : A) (xs : List A) → q x ≡ true → all q xs ≡ true → all q (keep b x xs) ≡ true
   keep-all q true x xs h g = and-true h g
   keep-all q false x xs h g = g
 
-  those-all : (q p : A → Bool) (xs : List A) → all q xs ≡ true → all q (those p xs) ≡ true
-  those-all q p [] h = refl
-  those-all q p (x ∷ xs) h = let b = and-both (q x) (all q xs) h in keep-all q (p x) x (those p xs) (b .0) (those-all q p xs (b .1))
+  filter-all : (q p : A → Bool) (xs : List A) → all q xs ≡ true → all q (filter p xs) ≡ true
+  filter-all q p [] h = refl
+  filter-all q p (x ∷ xs) h = let b = and-both (q x) (all q xs) h in keep-all q (p x) x (filter p xs) (b .0) (filter-all q p xs (b .1))
 
   without-sum : (μ : A → ℕ) (i : ℕ) (xs : List A) → sum μ (splice i (λ x. []) xs) ≤ sum μ xs
   without-sum μ i [] = omega arith
@@ -89,8 +89,8 @@ less-same k ts = record { good = λ h. h; fewer = λ μ. omega arith }
 less-twice : (k : ℕ) (ts us vs : List (Branch k)) → Less k ts us → Less k us vs → Less k ts vs
 less-twice k ts us vs a b = record { good = λ h. b .good (a .good h); fewer = λ μ. omega (arith, a .fewer μ, b .fewer μ) }
 
-less-those : (k : ℕ) (p : Branch k → Bool) (ts : List (Branch k)) → Less k ts (those p ts)
-less-those k p ts = record { good = those-all (goodBranch k) p ts; fewer = λ μ. those-sum (μ .of k) p ts }
+less-filter : (k : ℕ) (p : Branch k → Bool) (ts : List (Branch k)) → Less k ts (filter p ts)
+less-filter k p ts = record { good = filter-all (goodBranch k) p ts; fewer = λ μ. filter-sum (μ .of k) p ts }
 
 less-without : (k i : ℕ) (ts : List (Branch k)) → Less k ts (splice i (λ t. []) ts)
 less-without k i ts = record { good = splice-all (goodBranch k) i (λ t. []) (λ t h. refl) ts; fewer = λ μ. without-sum (μ .of k) i ts }
@@ -108,13 +108,13 @@ less-map k f l (t ∷ ts) =
 
 less-keepAtoms : (k : ℕ) (p : Branch 0 → Bool) (ts : List (Branch k)) → Less k ts (keepAtoms k p ts)
 unfolding keepAtoms
-less-keepAtoms zero p ts = less-those zero p ts
+less-keepAtoms zero p ts = less-filter zero p ts
 less-keepAtoms (suc k) p ts = less-map k (keepAtoms k p) (less-keepAtoms k p) ts
 
 less-nonEmpty : (k : ℕ) (ts : List (Branch k)) → Less k ts (nonEmpty k ts)
 unfolding nonEmpty
 less-nonEmpty zero ts = less-same zero ts
-less-nonEmpty (suc k) ts = less-twice (suc k) ts _ _ (less-map k (nonEmpty k) (less-nonEmpty k) ts) (less-those (suc k) (λ t. not (isEmpty (t .1))) _)
+less-nonEmpty (suc k) ts = less-twice (suc k) ts _ _ (less-map k (nonEmpty k) (less-nonEmpty k) ts) (less-filter (suc k) (λ t. not (isEmpty (t .1))) _)
 
 -- ---- removals and joins
 
@@ -146,19 +146,19 @@ removeFirst-less : (d j : ℕ) (pos : List ℕ) (flag : Result (Unit {0})) (p : 
     → IfOk (λ c. Less (up d (suc j)) m (c .1)) (removeFirst d j pos flag p m)
 unfolding removeFirst
 removeFirst-less d j pos flag p m =
-    if-bind _ (position (branchAt d (suc j) pos m)) _
+    if-concatMap _ (position (branchAt d (suc j) pos m)) _
     (λ t e. if-then _ flag _ (λ u f. holds (without-less d j pos t (firstWhere (λ v. p (root j v)) (t .1)) m (position-some _ t e))))
 
 removeAtomsBy-less : (i : ℕ) (tree : List ℕ) (m : Machine) → IfOk (λ c. Less 4 m (c .after)) (removeAtomsBy i tree m)
 unfolding removeAtomsBy
 removeAtomsBy-less i tree m =
-    if-bind _ (position (branchAt 0 4 (i ∷ []) m)) _
+    if-concatMap _ (position (branchAt 0 4 (i ∷ []) m)) _
     (λ t e. if-then _ (readTree tree) _ (λ ns f. holds (less-children 0 3 (i ∷ []) t _ m (position-some _ t e) (less-keepAtoms 3 _ (t .1)))))
 
 removeEmpty-less : (i : ℕ) (m : Machine) → IfOk (λ c. Less 4 m (c .after)) (removeEmpty i m)
 unfolding removeEmpty
 removeEmpty-less i m =
-    if-bind _ (position (branchAt 0 4 (i ∷ []) m)) _
+    if-concatMap _ (position (branchAt 0 4 (i ∷ []) m)) _
     (λ t e. holds (less-children 0 3 (i ∷ []) t _ m (position-some _ t e) (less-nonEmpty 3 (t .1))))
 
 -- the first takes the second's children, and then the second goes
@@ -180,8 +180,8 @@ module _ (d j : ℕ) (a b : List ℕ) (m : List (Branch (up d (suc j)))) (la : l
   joinAt-less : IfOk (Less (up d (suc j)) m) (joinAt d j a b m)
   unfolding joinAt
   joinAt-less =
-      if-bind _ (position (branchAt d (suc j) a m)) _
-      (λ t e. if-bind _ (position (branchAt d (suc j) b m)) _
+      if-concatMap _ (position (branchAt d (suc j) a m)) _
+      (λ t e. if-concatMap _ (position (branchAt d (suc j) b m)) _
       (λ u f. if-then _ (need (not (same a b)) JoinWithItself) _
       (λ v g. holds (joined-less t u (position-some _ t e) (position-some _ u f) (not-true (same a b) (need-true _ _ v g))))))
 
@@ -262,12 +262,12 @@ unfolding chainId
 chainId-accepted t w e = accepted ChainId (all plain (trim t) && not (isEmpty (trim t))) (trim t) w e
 
 conformerName-accepted : (t : List ℕ) (w : ℕ) → accept ConformerName (conformerName t) ≡ ok w → conformerName t ≡ Stored w
-unfolding raised
-conformerName-accepted t w e = accepted ConformerName (all plain t && not (isEmpty (trim t))) (map raise (trim t)) w e
+unfolding uppercaseOr
+conformerName-accepted t w e = accepted ConformerName (all plain t && not (isEmpty (trim t))) (map toUpper (trim t)) w e
 
 atomName-accepted : (t : List ℕ) (w : ℕ) → accept AtomName (atomName t) ≡ ok w → atomName t ≡ Stored w
 unfolding atomName
-atomName-accepted t w e = accepted AtomName (all plain (trim t)) (map raise (trim t)) w e
+atomName-accepted t w e = accepted AtomName (all plain (trim t)) (map toUpper (trim t)) w e
 
 flag-stored : (flag : ℕ) (p : Prepared) (w : ℕ) → byFlag flag p ≡ Stored w → p ≡ Stored w
 flag-stored zero p w e = let z : _≡_ {A = ℕ} 0 1 = cc in absurd (omega arith)
@@ -295,11 +295,11 @@ record GoodNames (p : Prepare) : Type 0 where
 prepare-good : (a : Addition) → IfOk GoodNames (prepare a)
 unfolding prepare
 prepare-good a =
-    if-bind GoodNames (accept ChainId (chainId (a .chain))) _
-    (λ chain e₁. if-bind GoodNames (accept InsertionCode (optional insertionCode (a .code))) _
-    (λ code e₂. if-bind GoodNames (accept ConformerName (conformerName (a .conformer))) _
-    (λ conformer e₃. if-bind GoodNames (accept AlternativeLocation (optional alternativeLocation (a .location))) _
-    (λ location e₄. if-bind GoodNames (accept AtomName (atomName (a .name))) _
+    if-concatMap GoodNames (accept ChainId (chainId (a .chain))) _
+    (λ chain e₁. if-concatMap GoodNames (accept InsertionCode (optional insertionCode (a .code))) _
+    (λ code e₂. if-concatMap GoodNames (accept ConformerName (conformerName (a .conformer))) _
+    (λ conformer e₃. if-concatMap GoodNames (accept AlternativeLocation (optional alternativeLocation (a .location))) _
+    (λ location e₄. if-concatMap GoodNames (accept AtomName (atomName (a .name))) _
     (λ name e₅. holds (record {
       chain = chainId-stored (a .chain) chain (chainId-accepted (a .chain) chain e₁);
       code = optional-good InsertionCode insertionCode code (a .code) insertionCode-stored e₂;
@@ -356,8 +356,8 @@ module _ (i : ℕ) (a : Addition) (m : Machine) (t : Branch 4) (p : Prepare) (th
 addAtom-grows : (n i : ℕ) (a : Addition) (m : Machine) → IfOk (λ c. Grows n 1 m (c .after)) (addAtom n i a m)
 unfolding addAtom
 addAtom-grows n i a m =
-    if-bind _ (position (branchAt 0 4 (i ∷ []) m)) _
-    (λ t e. if-bind _ (prepare a) _
+    if-concatMap _ (position (branchAt 0 4 (i ∷ []) m)) _
+    (λ t e. if-concatMap _ (prepare a) _
     (λ p f. if-then _ (need (goodValues (newAtom a p)) BadValue) _
     (λ u g.
     let there = position-some _ t e in
@@ -378,15 +378,15 @@ module _ (n : ℕ) (m : Machine) (c : Call) (none-added : (l : List ℕ) → add
   less-step : (r : Result Change) → IfOk (λ x. Less 4 m (x .after)) r → Step n m c r
   less-step (refused e) nothing = refused-step n m c e (none-added (answer m (refused e)))
   less-step (ok x) (holds l) = record {
-    keeps = λ f. record { good = l .good (f .good); room = omega (arith, l .fewer size, length-bind (flat 4) m, length-bind (flat 4) (x .after), f .room) };
+    keeps = λ f. record { good = l .good (f .good); room = omega (arith, l .fewer size, length-concatMap (flat 4) m, length-concatMap (flat 4) (x .after), f .room) };
     counts = omega (arith, l .fewer atoms, none-added (answer m (ok x)));
   }
 
   machine-step : (r : Result Machine) → IfOk (Less 4 m) r → Step n m c (withMachine r)
-  machine-step r h = less-step (withMachine r) (if-bind _ r _ (λ x e. holds (if-ok (rw e at h))))
+  machine-step r h = less-step (withMachine r) (if-concatMap _ r _ (λ x e. holds (if-ok (rw e at h))))
 
   found-step : (r : Result (ℕ × Machine)) → IfOk (λ x. Less 4 m (x .1)) r → Step n m c (withFound r)
-  found-step r h = less-step (withFound r) (if-bind _ r _ (λ x e. holds (if-ok (rw e at h))))
+  found-step r h = less-step (withFound r) (if-concatMap _ r _ (λ x e. holds (if-ok (rw e at h))))
 
 -- a call that adds k atoms where it is accepted
 grows-step : (n k : ℕ) (m : Machine) (c : Call) → ((x : Change) → addedBy c (answer m (ok x)) ≡ k) → ((e : Refusal) → addedBy c (answer m (refused e)) ≡ 0)

@@ -8,7 +8,7 @@ use lib.ListN.{length}
 use lib.Dec.{leb, eqb}
 use borrow.Author.Tests.{leb-true, eqb-true, le-leb, lt-leb, eq-eqb, ne-eqb}
 use Rattle.machine.specs.Lists.{all, isEmpty, same}
-use Rattle.machine.specs.Text.{pack, textOf, plain, blank, raise, trimStart, trim, fit, chainId, raised, insertionCode, conformerName, alternativeLocation, atomName, storedBy, matches, packedText}
+use Rattle.machine.specs.Text.{pack, textOf, plain, blank, toUpper, trimStart, trim, fit, chainId, uppercaseOr, insertionCode, conformerName, alternativeLocation, atomName, storedBy, matches, packedText}
 use Rattle.machine.specs.declared.Prepared.{Prepared}
 use Rattle.machine.specs.declared.Prepared.the-variants.{Stored, Absent, Bad}
 use Rattle.laws.specs.Lists.{and-both, same-true, same-refl}
@@ -77,52 +77,52 @@ unfolding trim
 all-trim t h = rw (all-reverse plain) (all-trimStart (reverse (trimStart t)) (rw (all-reverse plain) (all-trimStart t h)))
 
 -- a byte that is raised is one of 97..122
-raise-cases : (P : ℕ → Type 0) (b : ℕ) → (leb 97 b && leb b 122 ≡ false → P b) → (97 ≤ b → b ≤ 122 → P (b - 32)) → P (raise b)
-raise-cases P b f g = go (leb 97 b && leb b 122) refl
+toUpper-cases : (P : ℕ → Type 0) (b : ℕ) → (leb 97 b && leb b 122 ≡ false → P b) → (97 ≤ b → b ≤ 122 → P (b - 32)) → P (toUpper b)
+toUpper-cases P b f g = go (leb 97 b && leb b 122) refl
   where
     go : (a : Bool) → leb 97 b && leb b 122 ≡ a → P (cond a (b - 32) b)
     go true e = let p = and-both (leb 97 b) (leb b 122) e in g (leb-true 97 b (p .0)) (leb-true b 122 (p .1))
     go false e = f e
 
-raise-twice : (b : ℕ) → raise (raise b) ≡ raise b
-raise-twice b = raise-cases (λ c. raise c ≡ c) b (λ e. rw e) (λ h k. rw (lt-leb 97 (b - 32) (omega arith)))
+toUpper-twice : (b : ℕ) → toUpper (toUpper b) ≡ toUpper b
+toUpper-twice b = toUpper-cases (λ c. toUpper c ≡ c) b (λ e. rw e) (λ h k. rw (lt-leb 97 (b - 32) (omega arith)))
 
 pub not-blank : (b : ℕ) → 33 ≤ b → blank b ≡ false
 not-blank b h = rw (lt-leb b 13 (omega arith), ne-eqb b 32 (omega arith), and-false)
 
-blank-raise : (b : ℕ) → blank (raise b) ≡ blank b
-blank-raise b = raise-cases (λ c. blank c ≡ blank b) b (λ e. refl) (λ h k. not-blank (b - 32) (omega arith) ∙ sym (not-blank b (omega arith)))
+blank-toUpper : (b : ℕ) → blank (toUpper b) ≡ blank b
+blank-toUpper b = toUpper-cases (λ c. blank c ≡ blank b) b (λ e. refl) (λ h k. not-blank (b - 32) (omega arith) ∙ sym (not-blank b (omega arith)))
 
 pub is-plain : (b : ℕ) → 32 ≤ b → b ≤ 126 → plain b ≡ true
 is-plain b h k = rw (le-leb 32 b h, le-leb b 126 k)
 
-plain-raise : (b : ℕ) → plain (raise b) ≡ plain b
-plain-raise b = raise-cases (λ c. plain c ≡ plain b) b (λ e. refl) (λ h k. is-plain (b - 32) (omega arith) (omega arith) ∙ sym (is-plain b (omega arith) (omega arith)))
+plain-toUpper : (b : ℕ) → plain (toUpper b) ≡ plain b
+plain-toUpper b = toUpper-cases (λ c. plain c ≡ plain b) b (λ e. refl) (λ h k. is-plain (b - 32) (omega arith) (omega arith) ∙ sym (is-plain b (omega arith) (omega arith)))
 
-pub all-raise : (t : List ℕ) → all plain (map raise t) ≡ all plain t
-all-raise [] = refl
-all-raise (b ∷ bs) = rw (plain-raise b, all-raise bs)
+pub all-toUpper : (t : List ℕ) → all plain (map toUpper t) ≡ all plain t
+all-toUpper [] = refl
+all-toUpper (b ∷ bs) = rw (plain-toUpper b, all-toUpper bs)
 
-pub map-raise-twice : (t : List ℕ) → map raise (map raise t) ≡ map raise t
-map-raise-twice [] = refl
-map-raise-twice (b ∷ bs) = rw (raise-twice b, map-raise-twice bs)
+pub map-toUpper-twice : (t : List ℕ) → map toUpper (map toUpper t) ≡ map toUpper t
+map-toUpper-twice [] = refl
+map-toUpper-twice (b ∷ bs) = rw (toUpper-twice b, map-toUpper-twice bs)
 
-trimStart-raise : (t : List ℕ) → trimStart (map raise t) ≡ map raise (trimStart t)
+trimStart-toUpper : (t : List ℕ) → trimStart (map toUpper t) ≡ map toUpper (trimStart t)
 unfolding trimStart
-trimStart-raise [] = refl
-trimStart-raise (b ∷ bs) = rw (blank-raise b, trimStart-raise bs) (go (blank b))
+trimStart-toUpper [] = refl
+trimStart-toUpper (b ∷ bs) = rw (blank-toUpper b, trimStart-toUpper bs) (go (blank b))
   where
-    go : (a : Bool) → cond a (map raise (trimStart bs)) (raise b ∷ map raise bs) ≡ map raise (cond a (trimStart bs) (b ∷ bs))
+    go : (a : Bool) → cond a (map toUpper (trimStart bs)) (toUpper b ∷ map toUpper bs) ≡ map toUpper (cond a (trimStart bs) (b ∷ bs))
     go true = refl
     go false = refl
 
-reverse-raise : (t : List ℕ) → reverse (map raise t) ≡ map raise (reverse t)
-reverse-raise [] = refl
-reverse-raise (b ∷ bs) = rw (reverse-cons (raise b) (map raise bs), reverse-cons b bs, map-append, reverse-raise bs)
+reverse-toUpper : (t : List ℕ) → reverse (map toUpper t) ≡ map toUpper (reverse t)
+reverse-toUpper [] = refl
+reverse-toUpper (b ∷ bs) = rw (reverse-cons (toUpper b) (map toUpper bs), reverse-cons b bs, map-append, reverse-toUpper bs)
 
-pub trim-raise : (t : List ℕ) → trim (map raise t) ≡ map raise (trim t)
+pub trim-toUpper : (t : List ℕ) → trim (map toUpper t) ≡ map toUpper (trim t)
 unfolding trim
-trim-raise t = rw (trimStart-raise t, reverse-raise (trimStart t), trimStart-raise (reverse (trimStart t)), reverse-raise)
+trim-toUpper t = rw (trimStart-toUpper t, reverse-toUpper (trimStart t), trimStart-toUpper (reverse (trimStart t)), reverse-toUpper)
 
 -- ---- what a rule stores is in stored form
 
@@ -164,42 +164,42 @@ chainId-text t w e =
 pub chainId-stored : (t : List ℕ) (w : ℕ) → chainId t ≡ Stored w → storedBy chainId w ≡ true
 chainId-stored t w e = stored-again chainId w (rw (chainId-text t w e, chainId-trim) e)
 
-pub isEmpty-raise : (t : List ℕ) → isEmpty (map raise t) ≡ isEmpty t
-isEmpty-raise [] = refl
-isEmpty-raise (b ∷ bs) = refl
+pub isEmpty-toUpper : (t : List ℕ) → isEmpty (map toUpper t) ≡ isEmpty t
+isEmpty-toUpper [] = refl
+isEmpty-toUpper (b ∷ bs) = refl
 
-raised-trim : (t : List ℕ) (other : Prepared) → all plain t ≡ true → raised (map raise (trim t)) other ≡ raised t other
-unfolding raised
-raised-trim t other h = rw (trim-raise, trim-twice, map-raise-twice, isEmpty-raise (trim t), all-raise (trim t), all-trim t h, h)
+uppercaseOr-trim : (t : List ℕ) (other : Prepared) → all plain t ≡ true → uppercaseOr (map toUpper (trim t)) other ≡ uppercaseOr t other
+unfolding uppercaseOr
+uppercaseOr-trim t other h = rw (trim-toUpper, trim-twice, map-toUpper-twice, isEmpty-toUpper (trim t), all-toUpper (trim t), all-trim t h, h)
 
--- for the three rules that share `raised`
-pub raised-again : (t : List ℕ) (other : Prepared) (w : ℕ) → raised t other ≡ Stored w → ((v : ℕ) → other ≡ Stored v → ⊥)
-    → raised (textOf w) other ≡ Stored w
-unfolding raised
-raised-again t other w e n =
-    let p = stored-where (all plain t && not (isEmpty (trim t))) (fit (map raise (trim t))) other w n e in
+-- for the three rules that share `uppercaseOr`
+pub uppercaseOr-again : (t : List ℕ) (other : Prepared) (w : ℕ) → uppercaseOr t other ≡ Stored w → ((v : ℕ) → other ≡ Stored v → ⊥)
+    → uppercaseOr (textOf w) other ≡ Stored w
+unfolding uppercaseOr
+uppercaseOr-again t other w e n =
+    let p = stored-where (all plain t && not (isEmpty (trim t))) (fit (map toUpper (trim t))) other w n e in
     let h = and-both (all plain t) (not (isEmpty (trim t))) (p .0) .0 in
-    let r = fit-text (map raise (trim t)) w (all-raise (trim t) ∙ all-trim t h) (p .1) in
-    ap (λ (s : List ℕ). raised s other) r ∙ raised-trim t other h ∙ e
+    let r = fit-text (map toUpper (trim t)) w (all-toUpper (trim t) ∙ all-trim t h) (p .1) in
+    ap (λ (s : List ℕ). uppercaseOr s other) r ∙ uppercaseOr-trim t other h ∙ e
 
 pub insertionCode-stored : (t : List ℕ) (w : ℕ) → insertionCode t ≡ Stored w → storedBy insertionCode w ≡ true
-insertionCode-stored t w e = stored-again insertionCode w (raised-again t Bad w e bad-stores-none)
+insertionCode-stored t w e = stored-again insertionCode w (uppercaseOr-again t Bad w e bad-stores-none)
 
 pub conformerName-stored : (t : List ℕ) (w : ℕ) → conformerName t ≡ Stored w → storedBy conformerName w ≡ true
-conformerName-stored t w e = stored-again conformerName w (raised-again t Bad w e bad-stores-none)
+conformerName-stored t w e = stored-again conformerName w (uppercaseOr-again t Bad w e bad-stores-none)
 
 pub alternativeLocation-stored : (t : List ℕ) (w : ℕ) → alternativeLocation t ≡ Stored w → storedBy alternativeLocation w ≡ true
-alternativeLocation-stored t w e = stored-again alternativeLocation w (raised-again t Absent w e absent-stores-none)
+alternativeLocation-stored t w e = stored-again alternativeLocation w (uppercaseOr-again t Absent w e absent-stores-none)
 
-atomName-trim : (t : List ℕ) → atomName (map raise (trim t)) ≡ atomName t
+atomName-trim : (t : List ℕ) → atomName (map toUpper (trim t)) ≡ atomName t
 unfolding atomName
-atomName-trim t = rw (trim-raise, trim-twice, map-raise-twice, all-raise (trim t))
+atomName-trim t = rw (trim-toUpper, trim-twice, map-toUpper-twice, all-toUpper (trim t))
 
-atomName-text : (t : List ℕ) (w : ℕ) → atomName t ≡ Stored w → textOf w ≡ map raise (trim t)
+atomName-text : (t : List ℕ) (w : ℕ) → atomName t ≡ Stored w → textOf w ≡ map toUpper (trim t)
 unfolding atomName
 atomName-text t w e =
-    let p = stored-where (all plain (trim t)) (fit (map raise (trim t))) Bad w bad-stores-none e in
-    fit-text (map raise (trim t)) w (all-raise (trim t) ∙ p .0) (p .1)
+    let p = stored-where (all plain (trim t)) (fit (map toUpper (trim t))) Bad w bad-stores-none e in
+    fit-text (map toUpper (trim t)) w (all-toUpper (trim t) ∙ p .0) (p .1)
 
 pub atomName-stored : (t : List ℕ) (w : ℕ) → atomName t ≡ Stored w → storedBy atomName w ≡ true
 atomName-stored t w e = stored-again atomName w (rw (atomName-text t w e, atomName-trim) e)

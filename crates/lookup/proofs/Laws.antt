@@ -7,7 +7,7 @@ use mathlib.Core.Option.{Option, none, some}
 use native.Mathlib.Omega.{arith}
 use lib.ListN.{length, length-append}
 use borrow.Author.Tests.{le-leb, lt-leb}
-use Rattle.machine.specs.Lists.{bind, andThen}
+use Rattle.machine.specs.Lists.{concatMap, andThen}
 use Rattle.machine.specs.Answer.{ok, lookedUpNumbers}
 use Rattle.machine.specs.Text.{Optional, optionalOf}
 use Rattle.machine.specs.Record.{Words, words}
@@ -31,7 +31,7 @@ use Rattle.lookup.proofs.Scan.{next-branch, part-of, none-left}
 record Sits (k n : ℕ) (ts : List (Branch k)) (u : ℕ × Branch k) : Type 0 where
   pre : List Words
   post : List Words
-  was : bind (flat k) ts ≡ pre ++ (flat k (u .1) ++ post)
+  was : concatMap (flat k) ts ≡ pre ++ (flat k (u .1) ++ post)
   number : u .0 ≡ n + length pre
 
 sits : (k serial : ℕ) (o : Optional) (n : ℕ) (ts : List (Branch k)) (u : ℕ × Branch k) → firstWanted k serial o n ts ≡ some u → Sits k n ts u
@@ -43,7 +43,7 @@ sits k serial o n (t ∷ ts) u e = go (wanted k serial o t) (sits k serial o (n 
         → cond b (some (n, t)) (firstWanted k serial o (n + size k t) ts) ≡ some u → Sits k n (t ∷ ts) u
     go true f q =
         let p : _≡_ {A = ℕ × Branch k} (n, t) u = cc in
-        subst (λ (v : ℕ × Branch k). Sits k n (t ∷ ts) v) p (record { pre = []; post = bind (flat k) ts; was = refl; number = omega arith })
+        subst (λ (v : ℕ × Branch k). Sits k n (t ∷ ts) v) p (record { pre = []; post = concatMap (flat k) ts; was = refl; number = omega arith })
     go false f q =
         let s = f q in
         record {
@@ -57,7 +57,7 @@ sits k serial o n (t ∷ ts) u e = go (wanted k serial o t) (sits k serial o (n 
 record Inside (k : ℕ) (w : List ℕ) (u : ℕ × Branch (suc k)) (start stop : ℕ) : Type 0 where
   number : u .0 ≡ start
   within : Within (start + 1) stop w
-  below : recordsIn (start + 1) stop w ≡ bind (flat k) (u .1 .1)
+  below : recordsIn (start + 1) stop w ≡ concatMap (flat k) (u .1 .1)
 
 -- what first_in finds among its children
 record Down (k serial : ℕ) (o : Optional) (w : List ℕ) (u : ℕ × Branch (suc k)) (start stop : ℕ) : Type 0 where
@@ -71,7 +71,7 @@ module _ (k : ℕ) (l : k ≤ 3) (w : List ℕ) (u : ℕ × Branch (suc k)) (sta
   children = ap (group k) (i .below) ∙ group-flats k (omega arith) (u .1 .1)
 
   inside-level : Level k (start + 1) stop w
-  inside-level = record { level = l; within = i .within; whole = i .below ∙ ap (bind (flat k)) (sym children) }
+  inside-level = record { level = l; within = i .within; whole = i .below ∙ ap (concatMap (flat k)) (sym children) }
 
   module _ (serial : ℕ) (o : Optional) (r : Span.Span) (a : r ≡ spanOf (spanWanted k serial o (start + 1) stop w)) where
     asked : r ≡ spanOf (andThen (firstChild k (wanted k serial o) u) (λ t. some (t .0, t .0 + size k (t .1))))

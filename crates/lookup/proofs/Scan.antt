@@ -8,7 +8,7 @@ use native.Mathlib.Omega.{arith}
 use lib.ListN.{length, take, drop, length-append, length-drop}
 use lib.Seq.{length-take-le, take-append-seam, drop-append-seam, drop-at, drop-drop, take-add}
 use borrow.Author.Tests.{ne-eqb}
-use Rattle.machine.specs.Lists.{bind}
+use Rattle.machine.specs.Lists.{concatMap}
 use Rattle.machine.specs.Text.{Optional}
 use Rattle.machine.specs.Record.{Words, words, kind}
 use Rattle.machine.specs.Store.{Branch, flat, group, chunks}
@@ -24,19 +24,19 @@ use Rattle.lookup.proofs.Serials.{atoms-append}
 
 -- ---- a branch's records
 
-atoms-bind : {A : Type 0} (f : A → List Words) (g : A → List ℕ) → ((x : A) → atomSerials (f x) ≡ g x) → (xs : List A) → atomSerials (bind f xs) ≡ bind g xs
+atoms-concatMap : {A : Type 0} (f : A → List Words) (g : A → List ℕ) → ((x : A) → atomSerials (f x) ≡ g x) → (xs : List A) → atomSerials (concatMap f xs) ≡ concatMap g xs
 unfolding atomSerials
-atoms-bind f g e [] = refl
-atoms-bind f g e (x ∷ xs) = atoms-append (f x) (bind f xs) ∙ rw (e x, atoms-bind f g e xs)
+atoms-concatMap f g e [] = refl
+atoms-concatMap f g e (x ∷ xs) = atoms-append (f x) (concatMap f xs) ∙ rw (e x, atoms-concatMap f g e xs)
 
 atoms-flat : (k : ℕ) → k ≤ 4 → (t : Branch k) → atomSerials (flat k t) ≡ serials k t
 unfolding atomSerials flat serials words
 atoms-flat zero l t = refl
-atoms-flat (suc k) l t = rw (ne-eqb (kind (words (suc k) (t .0))) 5 (λ q. omega (arith, words-kind (suc k) l (t .0)))) (atoms-bind (flat k) (serials k) (atoms-flat k (omega arith)) (t .1))
+atoms-flat (suc k) l t = rw (ne-eqb (kind (words (suc k) (t .0))) 5 (λ q. omega (arith, words-kind (suc k) l (t .0)))) (atoms-concatMap (flat k) (serials k) (atoms-flat k (omega arith)) (t .1))
 
 atoms-under : (k : ℕ) → k ≤ 3 → (t : Branch (suc k)) → atomSerials (under (suc k) t) ≡ serials (suc k) t
 unfolding serials
-atoms-under k l t = atoms-bind (flat k) (serials k) (atoms-flat k (omega arith)) (t .1)
+atoms-under k l t = atoms-concatMap (flat k) (serials k) (atoms-flat k (omega arith)) (t .1)
 
 -- what is asked of a branch is asked of its records
 wanted-records : (k : ℕ) → k ≤ 3 → (serial : ℕ) (o : Optional) (t : Branch k) → wantedRecords k serial o (words k (root k t)) (under k t) ≡ wanted k serial o t
@@ -57,7 +57,7 @@ pub record Next (k : ℕ) (w : List ℕ) (end at stop : ℕ) (left : List (Branc
   pub high : stop ≤ end
   pub own : recordAt at w ≡ words k (root k branch)
   pub below : recordsIn (at + 1) stop w ≡ under k branch
-  pub rest : recordsIn stop end w ≡ bind (flat k) more
+  pub rest : recordsIn stop end w ≡ concatMap (flat k) more
 
 -- a part of the records, by what stands before and after it
 pub record Part (w : List ℕ) (from end stop : ℕ) (b rest : List Words) : Type 0 where
@@ -79,20 +79,20 @@ part-of w from end stop b rest o e s =
     }
 
 -- where a branch's records end
-stop-at : (g k : ℕ) → g + k ≡ 4 → (at : ℕ) (t : Branch k) (more : List (Branch k)) → suc at + descendants (suc g) (under k t ++ bind (flat k) more) ≡ at + size k t
+stop-at : (g k : ℕ) → g + k ≡ 4 → (at : ℕ) (t : Branch k) (more : List (Branch k)) → suc at + descendants (suc g) (under k t ++ concatMap (flat k) more) ≡ at + size k t
 unfolding numbered spanAt
 stop-at g k l at t more =
-    let rs = under k t ++ bind (flat k) more in
+    let rs = under k t ++ concatMap (flat k) more in
     let a : atChild (suc g) 0 (toEnd (suc g)) at (words k (root k t) ∷ rs) ≡ some (at, suc at + descendants (suc g) rs) = child-here (suc g) (toEnd (suc g)) at (words k (root k t)) rs (omega (arith, words-kind k (omega arith) (root k t))) in
     let b : atChild (suc g) 0 (toEnd (suc g)) at (words k (root k t) ∷ rs) ≡ some (at, at + suc (length (under k t))) = rw (append-nil, flat-root k t) at (child-span g k l 0 at (t ∷ more) [] tt) in
     let c : _≡_ {A = ℕ × ℕ} (at, suc at + descendants (suc g) rs) (at, at + suc (length (under k t))) = cc in
     ap (λ (z : ℕ × ℕ). z .1) c ∙ rw (flat-root k t)
 
-pub next-branch : (k : ℕ) → k ≤ 4 → (w : List ℕ) (end at stop : ℕ) (left : List (Branch k)) → at < end → recordsIn at end w ≡ bind (flat k) left
+pub next-branch : (k : ℕ) → k ≤ 4 → (w : List ℕ) (end at stop : ℕ) (left : List (Branch k)) → at < end → recordsIn at end w ≡ concatMap (flat k) left
     → stop ≡ at + 1 + descendants (5 - k) (recordsIn (at + 1) end w) → Next k w end at stop left
 next-branch k l w end at stop [] h e s = let z = ap length (sym (recordsIn-cons w end at h) ∙ e) in absurd (omega arith)
 next-branch k l w end at stop (t ∷ more) h e s =
-    let rs = under k t ++ bind (flat k) more in
+    let rs = under k t ++ concatMap (flat k) more in
     let q : recordAt at w ∷ recordsIn (at + 1) end w ≡ words k (root k t) ∷ rs = sym (recordsIn-cons w end at h) ∙ e ∙ rw (flat-root k t) in
     let a : recordAt at w ≡ words k (root k t) = cc in
     let b : recordsIn (at + 1) end w ≡ rs = cc in
@@ -100,7 +100,7 @@ next-branch k l w end at stop (t ∷ more) h e s =
     let z : suc at + descendants (suc (4 - k)) rs ≡ at + size k t = stop-at (4 - k) k (omega arith) at t more in
     let n : stop ≡ at + size k t = s ∙ rw (b, g) (omega arith) in
     let u : size k t ≡ suc (length (under k t)) = ap length (flat-root k t) in
-    let p = part-of w (at + 1) end stop (under k t) (bind (flat k) more) (omega arith) b (omega arith) in
+    let p = part-of w (at + 1) end stop (under k t) (concatMap (flat k) more) (omega arith) b (omega arith) in
     record { branch = t; more = more; left-is = refl; stop-is = n; past = omega arith; high = p .high; own = a; below = p .is; rest = p .after }
 
 -- ---- first_in
@@ -109,7 +109,7 @@ next-branch k l w end at stop (t ∷ more) h e s =
 pub record Looked (k serial : ℕ) (o : Optional) (w : List ℕ) (from end at : ℕ) : Type 0 where
   pub high : at ≤ end
   pub left : List (Branch k)
-  pub rest : recordsIn at end w ≡ bind (flat k) left
+  pub rest : recordsIn at end w ≡ concatMap (flat k) left
   pub same : firstWanted k serial o from (group k (recordsIn from end w)) ≡ firstWanted k serial o at left
 
 first-hit : (k serial : ℕ) (o : Optional) (n : ℕ) (t : Branch k) (ts : List (Branch k)) → wanted k serial o t ≡ true → firstWanted k serial o n (t ∷ ts) ≡ some (n, t)
@@ -120,9 +120,9 @@ first-miss : (k serial : ℕ) (o : Optional) (n : ℕ) (t : Branch k) (ts : List
 unfolding numbered
 first-miss k serial o n t ts e = rw e
 
-pub none-left : (k : ℕ) (ts : List (Branch k)) → [] ≡ bind (flat k) ts → ts ≡ []
+pub none-left : (k : ℕ) (ts : List (Branch k)) → [] ≡ concatMap (flat k) ts → ts ≡ []
 none-left k [] e = refl
-none-left k (t ∷ ts) e = absurd (omega (arith, ap length e, length-append (flat k t) (bind (flat k) ts), ap length (flat-root k t)))
+none-left k (t ∷ ts) e = absurd (omega (arith, ap length e, length-append (flat k t) (concatMap (flat k) ts), ap length (flat-root k t)))
 
 module _ (k serial : ℕ) (o : Optional) (w : List ℕ) (from end : ℕ) (p : Level k from end w) where
   pub looked-begin : Looked k serial o w from end from

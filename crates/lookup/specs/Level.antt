@@ -6,7 +6,7 @@ use mathlib.Core.List.{List, [], _∷_}
 use mathlib.Core.Option.{Option, some}
 use lib.ListN.{getD}
 use lib.Dec.{eqb}
-use Rattle.machine.specs.Lists.{any, bind, andThen}
+use Rattle.machine.specs.Lists.{any, concatMap, andThen}
 use Rattle.machine.specs.Answer.{ok, _>>_, need, badName}
 use Rattle.machine.specs.Text.{Optional, goodFlag, matchesOptional}
 use Rattle.machine.specs.Record.{Words, kind}
@@ -37,7 +37,7 @@ firstWanted k serial o n ts = firstOf (λ u. wanted k serial o (u .1)) (numbered
 pub record Level (k from end : ℕ) (w : List ℕ) : Type 0 where
   pub level : k ≤ 3
   pub within : Within from end w
-  pub whole : recordsIn from end w ≡ bind (flat k) (group k (recordsIn from end w))
+  pub whole : recordsIn from end w ≡ concatMap (flat k) (group k (recordsIn from end w))
 
 -- the span of the first that is wanted
 abbrev pub spanWanted : (k : ℕ) → ℕ → Optional → ℕ → ℕ → List ℕ → Option (ℕ × ℕ)

@@ -5,11 +5,11 @@ use mathlib.Core.Path.{_≡_, refl}
 use mathlib.Core.List.{List, [], _∷_, _++_, map}
 use lib.ListN.{length, getD, replicate}
 use lib.Ieee.{ofBits, sub, lt}
-use Rattle.machine.specs.Lists.{bind, bytes}
+use Rattle.machine.specs.Lists.{concatMap, bytes}
 use Rattle.machine.specs.Answer.{Result, ok, refused, refusalNumber}
-use Rattle.machine.specs.Text.{packed, unpacked, withoutZeros, textOf, trimStart, trim, chainId, raised, atomName, matches, storedBy, packedText, Optional}
+use Rattle.machine.specs.Text.{packed, unpacked, withoutZeros, textOf, trimStart, trim, chainId, uppercaseOr, atomName, matches, storedBy, packedText, Optional}
 use Rattle.machine.specs.Record.{Words, words, fieldsOf, goodValues, goodFields, goodRecord, readOut}
-use Rattle.machine.specs.Store.{Machine, stored, flat, atomCount, laid, layOut, inOrder, goodLayout, cut, group, readStore}
+use Rattle.machine.specs.Store.{Machine, stored, flat, atomCount, laid, layOut, inOrder, goodLayout, sections, group, readStore}
 use Rattle.machine.specs.Query.{codes, nodeOf, nodesOf, run, leavesOne, readTree, treeValue, dropSign, close, termValue, tables, packedName}
 use Rattle.machine.specs.Find.{enter, atomsIn, atomsOf, hitsIn, hitsOf, findRun}
 use Rattle.machine.specs.Edit.{Addition, addition, Call, AddModel, AddAtom, branchAt, replaceAt, addModel, prepare, upsert, addAtom, machineStep, stepBy, storeStep, storeAfter, storeAnswers}
@@ -24,7 +24,7 @@ record12 ws = ws ++ replicate (12 - length ws) 0
 
 -- the words of some records, zeros up to n words, and the trailer
 abbrev pub store : ℕ → List Words → List ℕ
-store n rs = laid n (bind (λ (r : Words). r) rs)
+store n rs = laid n (concatMap (λ (r : Words). r) rs)
 
 abbrev pub six : ℕ → List Words
 six conformer =
@@ -133,7 +133,7 @@ abbrev pub eightBytes : ℕ → List ℕ
 eightBytes w = map (λ i. w / 256 ^ i % 256) (0 ∷ 1 ∷ 2 ∷ 3 ∷ 4 ∷ 5 ∷ 6 ∷ 7 ∷ [])
 
 abbrev pub file : List ℕ → List ℕ → List ℕ
-file w t = bind eightBytes (w ++ t ++ (length w ∷ []))
+file w t = concatMap eightBytes (w ++ t ++ (length w ∷ []))
 
 -- ---- the table
 
@@ -162,11 +162,11 @@ cases =
     ∷ case 7 (found (withBFactor 0x3fe0_0000_0000_0000) (bFactor 0x3fe0_0000_0000_0001)) (4 ∷ [])
     ∷ case 7 (found (withBFactor 0x3ff0_0000_0000_0000) (bFactor 0x3ff0_0000_0000_0001)) []
     ∷ case 8 (found (withBFactor 0x3cb0_0000_0000_0000) (bFactor 0x3370_0000_0000_0000)) []
-    ∷ case 9 (bind (λ (a : List ℕ). a) (storeAnswers (zeros 61) oneAtom)) (0 ∷ 1 ∷ 0 ∷ 0 ∷ 1 ∷ 0 ∷ [])
-    ∷ case 9 (bind (λ (a : List ℕ). a) (storeAnswers (zeros 60) oneAtom)) (0 ∷ 1 ∷ 0 ∷ 8 ∷ 0 ∷ 0 ∷ [])
+    ∷ case 9 (concatMap (λ (a : List ℕ). a) (storeAnswers (zeros 61) oneAtom)) (0 ∷ 1 ∷ 0 ∷ 0 ∷ 1 ∷ 0 ∷ [])
+    ∷ case 9 (concatMap (λ (a : List ℕ). a) (storeAnswers (zeros 60) oneAtom)) (0 ∷ 1 ∷ 0 ∷ 8 ∷ 0 ∷ 0 ∷ [])
     ∷ case 10 (storeAfter (zeros 121) threeAtoms) (store 121 twoResidues)
     ∷ []
 
 pub worked : map (λ (c : Case). c .given) cases ≡ map (λ (c : Case). c .stated) cases
-unfolding cases S renamed withBFactor packed unpacked withoutZeros textOf trimStart trim chainId raised atomName matches storedBy packedText words fieldsOf goodValues goodFields goodRecord readOut flat atomCount laid layOut inOrder goodLayout cut group readStore codes nodeOf nodesOf run leavesOne readTree treeValue dropSign close termValue tables enter atomsIn atomsOf hitsIn hitsOf findRun branchAt replaceAt addModel prepare upsert addAtom machineStep stepBy storeStep storeAfter storeAnswers readInput digits printed programRun undecided ofBits sub lt
+unfolding cases S renamed withBFactor packed unpacked withoutZeros textOf trimStart trim chainId uppercaseOr atomName matches storedBy packedText words fieldsOf goodValues goodFields goodRecord readOut flat atomCount laid layOut inOrder goodLayout sections group readStore codes nodeOf nodesOf run leavesOne readTree treeValue dropSign close termValue tables enter atomsIn atomsOf hitsIn hitsOf findRun branchAt replaceAt addModel prepare upsert addAtom machineStep stepBy storeStep storeAfter storeAnswers readInput digits printed programRun undecided ofBits sub lt
 worked = refl

@@ -5,7 +5,7 @@ use mathlib.Core.Bool.{Bool, true, false, _&&_, cond}
 use mathlib.Core.List.{List, [], _∷_}
 use lib.ListN.{length, getD, take, drop}
 use lib.Dec.{eqb}
-use Rattle.machine.specs.Lists.{any, those, sum, same}
+use Rattle.machine.specs.Lists.{any, filter, sum, same}
 use Rattle.machine.specs.Store.{Machine}
 use Rattle.machine.specs.Kleene.{isUndecided}
 use Rattle.machine.specs.Query.{tables}
@@ -76,7 +76,7 @@ listed hs h = any (same h) hs
 
 -- "Two lists share a hit if all five numbers agree; the shared ones, in their order"
 unfoldable pub shared : List (List ℕ) → List (List ℕ) → List (List ℕ)
-shared gs hs = those (listed hs) gs
+shared gs hs = filter (listed hs) gs
 
 abbrev pub atomNumber : List ℕ → ℕ
 atomNumber hit = getD hit 4 0
@@ -88,4 +88,4 @@ Rising (x ∷ y ∷ ys) = (x < y) × Rising (y ∷ ys)
 
 -- "Undecided is the number of stored atoms at which A is undecided."
 unfoldable pub undecided : List ℕ → Machine → ℕ
-undecided t m = length (those (λ s. isUndecided (valueAt tables t s)) (atomsOf m))
+undecided t m = length (filter (λ s. isUndecided (valueAt tables t s)) (atomsOf m))

@@ -6,7 +6,7 @@ use mathlib.Core.List.{List, [], _∷_, _++_, map}
 use mathlib.Core.Option.{Option, none, some}
 use lib.ListN.{length}
 use lib.Dec.{leb, eqb}
-use Rattle.machine.specs.Lists.{isEmpty, those, nth, splice, firstWhere, lastWhere, andThen, same}
+use Rattle.machine.specs.Lists.{isEmpty, filter, nth, splice, firstWhere, lastWhere, andThen, same}
 use Rattle.machine.specs.Answer.{Result, ok, refused, _>>=_, _>>_, need, ifRefused, badName, editedNumbers}
 use Rattle.machine.specs.Text.{Optional, chainId, insertionCode, conformerName, alternativeLocation, atomName, optional, goodFlag, matches, matchesOptional}
 use Rattle.machine.specs.Record.{Fields, Atom, goodValues}
@@ -216,7 +216,7 @@ withFound r = r >>= λ c. ok (record { found = c .0; after = c .1 })
 
 -- without the atoms at which p is false
 unfoldable pub keepAtoms : (k : ℕ) → (Atom → Bool) → List (Branch k) → List (Branch k)
-keepAtoms zero p ts = those p ts
+keepAtoms zero p ts = filter p ts
 keepAtoms (suc k) p ts = map (λ t. (t .0, keepAtoms k p (t .1))) ts
 
 -- "atoms at which a tree, with `add_atom_info` alone, is true: terms of the levels above are undecided"; "Undecided atoms stay."
@@ -229,7 +229,7 @@ removeAtomsBy i tree m = do
 -- "conformers without atoms, then residues without conformers, then chains without residues"
 unfoldable pub nonEmpty : (k : ℕ) → List (Branch k) → List (Branch k)
 nonEmpty zero ts = ts
-nonEmpty (suc k) ts = those (λ t. not (isEmpty (t .1))) (map (λ t. (t .0, nonEmpty k (t .1))) ts)
+nonEmpty (suc k) ts = filter (λ t. not (isEmpty (t .1))) (map (λ t. (t .0, nonEmpty k (t .1))) ts)
 
 unfoldable pub removeEmpty : ℕ → Machine → Result Change
 removeEmpty i m = do

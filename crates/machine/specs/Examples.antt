@@ -6,11 +6,11 @@ use mathlib.Core.Bool.{Bool, cond}
 use mathlib.Core.List.{List, [], _∷_, _++_, map}
 use lib.ListN.{length, replicate}
 use lib.Ieee.{ofBits, sub, lt}
-use Rattle.machine.specs.Lists.{bytes, bind}
+use Rattle.machine.specs.Lists.{bytes, concatMap}
 use Rattle.machine.specs.Answer.{Result, ok, refused, refusalNumber}
-use Rattle.machine.specs.Text.{packed, pack, unpacked, withoutZeros, textOf, trimStart, trim, chainId, raised, atomName, alternativeLocation, insertionCode, matches, matchesOptional, storedBy, packedText}
+use Rattle.machine.specs.Text.{packed, pack, unpacked, withoutZeros, textOf, trimStart, trim, chainId, uppercaseOr, atomName, alternativeLocation, insertionCode, matches, matchesOptional, storedBy, packedText}
 use Rattle.machine.specs.Record.{words, fieldsOf, goodValues, goodFields, goodRecord, readOut}
-use Rattle.machine.specs.Store.{flat, atomCount, laid, layOut, inOrder, goodLayout, cut, group, readStore, openRun}
+use Rattle.machine.specs.Store.{flat, atomCount, laid, layOut, inOrder, goodLayout, sections, group, readStore, openRun}
 use Rattle.machine.specs.Query.{codes, nodeOf, nodesOf, run, leavesOne, readTree, treeValue, termValue, tables, packedName}
 use Rattle.machine.specs.Find.{enter, atomsIn, atomsOf, hitsIn, hitsOf, findRun}
 use Rattle.machine.specs.Edit.{Call, AddModel, AddAtom, RemoveChain, RemoveAtom, RemoveChainById, RemoveResidueById, RemoveConformerById, RemoveAtomBySerialNumber, RemoveAtomsBy, RemoveEmpty, JoinModels, JoinResidues, branchAt, replaceAt, addModel, prepare, upsert, addAtom, removeAt, removeFirst, keepAtoms, removeAtomsBy, nonEmpty, removeEmpty, joinAt, machineStep, stepBy, storeStep, storeAfter, storeAnswers}
@@ -39,7 +39,7 @@ abbrev onS : List Call → List (List ℕ)
 onS calls = storeAnswers S calls
 
 abbrev lines : List (List ℕ) → List ℕ
-lines ls = bind (λ (l : List ℕ). l) ls
+lines ls = concatMap (λ (l : List ℕ). l) ls
 
 -- ---- stores
 
@@ -157,11 +157,11 @@ examples =
     ∷ example (programRun (zeros 9)) (bytes "refused 11\n")
     ∷ example (programRun (zeros 8)) (bytes "refused 1\n")
     ∷ example (programRun (file (0 ∷ []) [])) (bytes "refused 3\n")
-    ∷ example (programRun (bind eightBytes (0 ∷ 2 ∷ []))) (bytes "refused 11\n")
+    ∷ example (programRun (concatMap eightBytes (0 ∷ 2 ∷ []))) (bytes "refused 11\n")
     ∷ []
 
 pub shown : map (λ (c : Case). c .given) examples ≡ map (λ (c : Case). c .stated) examples
-unfolding examples serialStore S packed unpacked withoutZeros textOf trimStart trim chainId raised atomName matches storedBy packedText words fieldsOf goodValues goodFields goodRecord readOut flat atomCount laid layOut inOrder goodLayout cut group readStore openRun codes nodeOf nodesOf run leavesOne readTree treeValue termValue tables enter atomsIn atomsOf hitsIn hitsOf findRun branchAt replaceAt addModel prepare upsert addAtom removeAt removeFirst keepAtoms removeAtomsBy nonEmpty removeEmpty joinAt machineStep stepBy storeStep storeAfter storeAnswers numbered serials lookupIn lookupRun readInput digits printed programRun ofBits sub lt
+unfolding examples serialStore S packed unpacked withoutZeros textOf trimStart trim chainId uppercaseOr atomName matches storedBy packedText words fieldsOf goodValues goodFields goodRecord readOut flat atomCount laid layOut inOrder goodLayout sections group readStore openRun codes nodeOf nodesOf run leavesOne readTree treeValue termValue tables enter atomsIn atomsOf hitsIn hitsOf findRun branchAt replaceAt addModel prepare upsert addAtom removeAt removeFirst keepAtoms removeAtomsBy nonEmpty removeEmpty joinAt machineStep stepBy storeStep storeAfter storeAnswers numbered serials lookupIn lookupRun readInput digits printed programRun ofBits sub lt
 shown = refl
 
 -- "over 65,536 bytes": the next multiple of 8 is refused

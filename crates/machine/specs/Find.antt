@@ -5,7 +5,7 @@ use mathlib.Core.List.{List, [], _∷_, _++_, map}
 use mathlib.Core.Option.{none, some}
 use lib.ListN.{length, drop}
 use lib.Dec.{leb}
-use Rattle.machine.specs.Lists.{those, bind, along}
+use Rattle.machine.specs.Lists.{filter, concatMap, concatMapFrom}
 use Rattle.machine.specs.Answer.{Result, ok, refused, _>>=_, _>>_, foundNumbers}
 use Rattle.machine.specs.Record.{Fields}
 use Rattle.machine.specs.Store.{Branch, Machine, flat, readStore}
@@ -47,11 +47,11 @@ size k t = length (flat k t)
 -- the atoms of a branch whose own record has number n, in hierarchy order
 unfoldable pub atomsIn : (k : ℕ) → Site → ℕ → Branch k → List Site
 atomsIn zero s n a = below zero n a s ∷ []
-atomsIn (suc k) s n t = along (size k) (atomsIn k (below (suc k) n (t .0) s)) (suc n) (t .1)
+atomsIn (suc k) s n t = concatMapFrom (size k) (atomsIn k (below (suc k) n (t .0) s)) (suc n) (t .1)
 
 -- "Stored atoms are those of the machine."
 unfoldable pub atomsOf : Machine → List Site
-atomsOf m = along (size 4) (atomsIn 4 top) 0 m
+atomsOf m = concatMapFrom (size 4) (atomsIn 4 top) 0 m
 
 -- "A tree's value at an atom comes from Kleene's tables, with the terms of all five levels at their values there."
 abbrev pub valueAt : Names → List ℕ → Site → Tri
@@ -59,7 +59,7 @@ valueAt names t s = treeValue (termValue names (s .place)) t
 
 -- "A hit is five words: the record numbers of model, chain, residue, conformer, atom."
 unfoldable pub hitsIn : Names → List ℕ → Machine → List (List ℕ)
-hitsIn names t m = map (λ s. s .numbers) (those (λ s. isHit (valueAt names t s)) (atomsOf m))
+hitsIn names t m = map (λ s. s .numbers) (filter (λ s. isHit (valueAt names t s)) (atomsOf m))
 
 unfoldable pub hitsOf : List ℕ → List ℕ → Result (List (List ℕ))
 hitsOf w t = do
@@ -68,7 +68,7 @@ hitsOf w t = do
   ok (hitsIn tables t m)
 
 abbrev pub hitWords : List (List ℕ) → List ℕ
-hitWords hs = bind (λ (h : List ℕ). h) hs
+hitWords hs = concatMap (λ (h : List ℕ). h) hs
 
 -- "10 output shorter than 5 words per hit", "Output words past the hits stay."
 abbrev pub written : List ℕ → Result (List (List ℕ)) → List ℕ × List ℕ

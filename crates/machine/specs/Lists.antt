@@ -33,9 +33,9 @@ module _ {A : Type 0} where
   keep false x xs = xs
 
   -- the elements at which p holds, in their order
-  abbrev pub those : (A → Bool) → List A → List A
-  those p [] = []
-  those p (x ∷ xs) = keep (p x) x (those p xs)
+  abbrev pub filter : (A → Bool) → List A → List A
+  filter p [] = []
+  filter p (x ∷ xs) = keep (p x) x (filter p xs)
 
   abbrev pub nth : ℕ → List A → Option A
   nth i [] = none
@@ -62,14 +62,14 @@ module _ {A : Type 0} where
   lastOf x (y ∷ ys) = lastOf y ys
 
 module _ {A B : Type 0} where
-  abbrev pub bind : (A → List B) → List A → List B
-  bind f [] = []
-  bind f (x ∷ xs) = f x ++ bind f xs
+  abbrev pub concatMap : (A → List B) → List A → List B
+  concatMap f [] = []
+  concatMap f (x ∷ xs) = f x ++ concatMap f xs
 
   -- what f gives for each element with a number, where an element takes up as many numbers as its size, from n on
-  abbrev pub along : (A → ℕ) → (ℕ → A → List B) → ℕ → List A → List B
-  along size f n [] = []
-  along size f n (x ∷ xs) = f n x ++ along size f (n + size x) xs
+  abbrev pub concatMapFrom : (A → ℕ) → (ℕ → A → List B) → ℕ → List A → List B
+  concatMapFrom size f n [] = []
+  concatMapFrom size f n (x ∷ xs) = f n x ++ concatMapFrom size f (n + size x) xs
 
   abbrev pub andThen : Option A → (A → Option B) → Option B
   andThen none f = none

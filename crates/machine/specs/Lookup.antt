@@ -4,7 +4,7 @@ use mathlib.Core.Bool.{Bool, false, _&&_, cond}
 use mathlib.Core.List.{List, [], _∷_}
 use mathlib.Core.Option.{Option, none, some}
 use lib.Dec.{leb, eqb}
-use Rattle.machine.specs.Lists.{any, lastOf, bind, andThen}
+use Rattle.machine.specs.Lists.{any, lastOf, concatMap, andThen}
 use Rattle.machine.specs.Answer.{Result, ok, refused, _>>=_, _>>_, need, badName, lookedUpNumbers}
 use Rattle.machine.specs.Text.{Optional, goodFlag, matchesOptional}
 use Rattle.machine.specs.Store.{Branch, Machine, readStore}
@@ -24,7 +24,7 @@ firstOf p (x ∷ xs) = cond (p x) (some x) (firstOf p xs)
 
 unfoldable pub serials : (k : ℕ) → Branch k → List ℕ
 serials zero a = a .serial ∷ []
-serials (suc k) t = bind (serials k) (t .1)
+serials (suc k) t = concatMap (serials k) (t .1)
 
 -- "with atoms whose first to last serial spans the number"
 abbrev pub spans : ℕ → List ℕ → Bool

@@ -4,7 +4,7 @@ use mathlib.Core.Bool.{_&&_, cond}
 use mathlib.Core.List.{List, [], _∷_, _++_}
 use lib.ListN.{length, getD, take, drop}
 use lib.Dec.{leb, ltb, eqb}
-use Rattle.machine.specs.Lists.{bind, bytes}
+use Rattle.machine.specs.Lists.{concatMap, bytes}
 use Rattle.machine.specs.Answer.{Result, ok, refused, _>>=_, _>>_, need, refusalNumber}
 use Rattle.machine.specs.Find.{hitsOf}
 use Rattle.machine.specs.declared.Refusal.the-variants.{BadFile}
@@ -59,7 +59,7 @@ spaced (n ∷ (m ∷ ns)) = decimal n ++ bytes " " ++ spaced (m ∷ ns)
 
 -- "It prints each hit as five decimals, then the count"; "A refusal prints `refused` and its number."
 unfoldable pub printed : Result (List (List ℕ)) → List ℕ
-printed (ok hs) = bind (λ (h : List ℕ). spaced h ++ newline) hs ++ bytes "found " ++ decimal (length hs) ++ newline
+printed (ok hs) = concatMap (λ (h : List ℕ). spaced h ++ newline) hs ++ bytes "found " ++ decimal (length hs) ++ newline
 printed (refused r) = bytes "refused " ++ decimal (refusalNumber r) ++ newline
 
 -- what the program writes, given what it reads

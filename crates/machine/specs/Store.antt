@@ -5,7 +5,7 @@ use mathlib.Core.Bool.{Bool, true, false, _&&_, cond}
 use mathlib.Core.List.{List, [], _∷_, _++_, map}
 use lib.ListN.{length, getD, take, drop, replicate}
 use lib.Dec.{leb, eqb}
-use Rattle.machine.specs.Lists.{all, sum, bind}
+use Rattle.machine.specs.Lists.{all, sum, concatMap}
 use Rattle.machine.specs.Answer.{Result, ok, _>>=_, _>>_, need, openedNumbers}
 use Rattle.machine.specs.Record.{Fields, Words, words, kind, fieldsOf, goodRecord}
 use Rattle.machine.specs.declared.Refusal.the-variants.{BadLength, BrokenLayout}
@@ -25,10 +25,10 @@ Machine = List (Branch 4)
 -- "Records stand in hierarchy order: parent, then its children."
 unfoldable pub flat : (k : ℕ) → Branch k → List Words
 flat zero a = words zero a ∷ []
-flat (suc k) t = words (suc k) (t .0) ∷ bind (flat k) (t .1)
+flat (suc k) t = words (suc k) (t .0) ∷ concatMap (flat k) (t .1)
 
 abbrev pub records : Machine → List Words
-records m = bind (flat 4) m
+records m = concatMap (flat 4) m
 
 unfoldable pub atomCount : (k : ℕ) → Branch k → ℕ
 atomCount zero a = 1
@@ -50,7 +50,7 @@ laid n b = b ++ (replicate (n - 1 - length b) 0 ++ (length b ∷ []))
 
 -- "the machine's records, in hierarchy order from record 0 and laid out as above, then zeros, then E"
 unfoldable pub layOut : ℕ → Machine → List ℕ
-layOut n m = laid n (bind (λ (r : Words). r) (records m))
+layOut n m = laid n (concatMap (λ (r : Words). r) (records m))
 
 -- ---- what a store's words hold
 
@@ -85,21 +85,21 @@ unfoldable pub goodLayout : List ℕ → Bool
 goodLayout w = (eqb (end w % 12) 0 && leb (end w) (length w - 1)) && (all (eqb 0) (gap w) && inOrder 0 (recordsOf w))
 
 -- what stands before the first record that p marks, and each marked record with what follows it up to the next
-abbrev pub Cut : Type 0
-Cut = List Words × List (Words × List Words)
+abbrev pub Sections : Type 0
+Sections = List Words × List (Words × List Words)
 
-abbrev pub cutStep : Bool → Words → Cut → Cut
-cutStep true r c = ([], (r, c .0) ∷ c .1)
-cutStep false r c = (r ∷ c .0, c .1)
+abbrev pub addToSections : Bool → Words → Sections → Sections
+addToSections true r c = ([], (r, c .0) ∷ c .1)
+addToSections false r c = (r ∷ c .0, c .1)
 
-unfoldable pub cut : (Words → Bool) → List Words → Cut
-cut p [] = ([], [])
-cut p (r ∷ rs) = cutStep (p r) r (cut p rs)
+unfoldable pub sections : (Words → Bool) → List Words → Sections
+sections p [] = ([], [])
+sections p (r ∷ rs) = addToSections (p r) r (sections p rs)
 
 -- the branches of level k that records in hierarchy order hold
 unfoldable pub group : (k : ℕ) → List Words → List (Branch k)
 group zero rs = map (fieldsOf zero) rs
-group (suc k) rs = map (λ g. (fieldsOf (suc k) (g .0), group k (g .1))) (cut (λ r. eqb (kind r) (4 - k)) rs .1)
+group (suc k) rs = map (λ g. (fieldsOf (suc k) (g .0), group k (g .1))) (sections (λ r. eqb (kind r) (4 - k)) rs .1)
 
 -- the machine that a store holds: "1 bad length; 2 layout broken"
 unfoldable pub readStore : List ℕ → Result Machine

@@ -53,8 +53,8 @@ abbrev pub plain : ℕ → Bool
 plain b = leb 32 b && leb b 126
 
 -- "a..z raised"
-abbrev pub raise : ℕ → ℕ
-raise b = cond (leb 97 b && leb b 122) (b - 32) b
+abbrev pub toUpper : ℕ → ℕ
+toUpper b = cond (leb 97 b && leb b 122) (b - 32) b
 
 unfoldable pub trimStart : List ℕ → List ℕ
 trimStart [] = []
@@ -73,22 +73,22 @@ unfoldable pub chainId : List ℕ → Prepared
 chainId t = cond (all plain (trim t) && not (isEmpty (trim t))) (fit (trim t)) Bad
 
 -- "every byte must be 32..126 before trimming; trimmed; not empty; a..z raised"; else the second argument
-unfoldable pub raised : List ℕ → Prepared → Prepared
-raised t other = cond (all plain t && not (isEmpty (trim t))) (fit (map raise (trim t))) other
+unfoldable pub uppercaseOr : List ℕ → Prepared → Prepared
+uppercaseOr t other = cond (all plain t && not (isEmpty (trim t))) (fit (map toUpper (trim t))) other
 
 abbrev pub insertionCode : List ℕ → Prepared
-insertionCode t = raised t Bad
+insertionCode t = uppercaseOr t Bad
 
 abbrev pub conformerName : List ℕ → Prepared
-conformerName t = raised t Bad
+conformerName t = uppercaseOr t Bad
 
 -- "Alternative location: as the last, but a bad or blank one is stored as absent."
 abbrev pub alternativeLocation : List ℕ → Prepared
-alternativeLocation t = raised t Absent
+alternativeLocation t = uppercaseOr t Absent
 
 -- "Atom name: trimmed, then checked; may be empty; a..z raised."
 unfoldable pub atomName : List ℕ → Prepared
-atomName t = cond (all plain (trim t)) (fit (map raise (trim t))) Bad
+atomName t = cond (all plain (trim t)) (fit (map toUpper (trim t))) Bad
 
 -- ---- optional arguments
 

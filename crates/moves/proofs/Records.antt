@@ -7,7 +7,7 @@ use lib.ListN.{length, take, drop, getD, set, replicate, length-append, length-t
 use lib.Seq.{length-take-le, take-at, drop-at, drop-cons, set-at}
 use Rattle.machine.specs.Record.{Words}
 use Rattle.machine.specs.Store.{laid}
-use Rattle.laws.specs.Lists.{All-append, All-left, All-right, bind-append}
+use Rattle.laws.specs.Lists.{All-append, All-left, All-right, concatMap-append}
 use Rattle.laws.specs.Grouped.{concat, concat-length}
 use Rattle.moves.specs.Over.{over, part, takenOut, gapped, rotated, Twelve}
 use Rattle.moves.proofs.Laws.{part-length, rotated-length, split-two, split-three, over-length, over-at, takenOut-at, gapped-at, rotated-at}
@@ -34,7 +34,7 @@ twelve-rotated a m b rs t =
     (All-append _ (part m b rs) _ (twelve-part m b rs t) (All-append _ (part a m rs) _ (twelve-part a m rs t) (twelve-drop b rs t)))
 
 pub concat-append : (xs ys : List Words) → concat (xs ++ ys) ≡ concat xs ++ concat ys
-concat-append xs ys = bind-append (λ (r : Words). r) xs ys
+concat-append xs ys = concatMap-append (λ (r : Words). r) xs ys
 
 -- n records of zeros
 abbrev pub blank : ℕ → List Words

@@ -10,7 +10,7 @@ use lib.Dec.{leb}
 use borrow.Author.Tests.{leb-true}
 use Rattle.machine.specs.Lists.{isEmpty, all}
 use Rattle.machine.specs.Answer.{Result, ok, refused, _>>=_}
-use Rattle.machine.specs.Text.{optionalOf, optional, pack, plain, raise, trim, fit, chainId, raised, insertionCode, conformerName, alternativeLocation, atomName}
+use Rattle.machine.specs.Text.{optionalOf, optional, pack, plain, toUpper, trim, fit, chainId, uppercaseOr, insertionCode, conformerName, alternativeLocation, atomName}
 use Rattle.machine.specs.Record.{finite, goodValues}
 use Rattle.machine.specs.Edit.{Addition, accept, prepare, newAtom, Prepare}
 use Rattle.machine.specs.declared.Name.{Name}
@@ -24,7 +24,7 @@ use Rattle.pdbtbx.specs.Structs.{Struct, validIdentifier, prepareIdentif
 use Rattle.pdbtbx.specs.Edits.{residueNew}
 use Rattle.pdbtbx.specs.Calls.{present}
 use Rattle.pdbtbx.specs.Demand.{Short, Fitting, Flagged, Domain}
-use Rattle.pdbtbx.proofs.Names.{valid-plain, chained, raised-ready, named, located}
+use Rattle.pdbtbx.proofs.Names.{valid-plain, chained, uppercaseOr-ready, named, located}
 use Rattle.pdbtbx.proofs.Additions.{floats, Ready, coded}
 
 -- ---- results
@@ -73,32 +73,32 @@ module _ (w : ℕ) where
       let m = met ChainId (all plain (trim t) && not (isEmpty (trim t))) (trim t) w h in
       (m .1, prepares (trim t) (ap (λ (s : Text). all plain (trim t) && not (isEmpty s)) (trim-twice t) ∙ m .0))
 
-  raised-met : (n : Name) (t : Text) → accept n (raised t Bad) ≡ ok w → (length (trim t) ≤ 8) × (prepareIdentifierUppercase t ≡ some (toUppercase (trim t)))
-  unfolding raised
-  raised-met n t h =
-      let m = met n (all plain t && not (isEmpty (trim t))) (map raise (trim t)) w h in
-      (omega (arith, m .1, length-map (trim t) raise), prepares-upper t (m .0))
+  uppercaseOr-met : (n : Name) (t : Text) → accept n (uppercaseOr t Bad) ≡ ok w → (length (trim t) ≤ 8) × (prepareIdentifierUppercase t ≡ some (toUppercase (trim t)))
+  unfolding uppercaseOr
+  uppercaseOr-met n t h =
+      let m = met n (all plain t && not (isEmpty (trim t))) (map toUpper (trim t)) w h in
+      (omega (arith, m .1, length-map (trim t) toUpper), prepares-upper t (m .0))
 
   name-met : (t : Text) → accept AtomName (atomName t) ≡ ok w → (length (trim t) ≤ 8) × (validIdentifier (trim t) ≡ true)
   unfolding atomName
   name-met t h =
-      let m = met AtomName (all plain (trim t)) (map raise (trim t)) w h in
-      (omega (arith, m .1, length-map (trim t) raise), valid-plain (trim t) ∙ m .0)
+      let m = met AtomName (all plain (trim t)) (map toUpper (trim t)) w h in
+      (omega (arith, m .1, length-map (trim t) toUpper), valid-plain (trim t) ∙ m .0)
 
   location-met : (flag : ℕ) (t : Text) → accept AlternativeLocation (optional alternativeLocation (optionalOf flag t)) ≡ ok w → Flagged flag (Fitting t)
-  unfolding raised
+  unfolding uppercaseOr
   location-met zero t h = tt
   location-met (suc zero) t h = λ u e. go u e (all plain t && not (isEmpty (trim t))) refl h
     where
-      go : (u : Text) → prepareIdentifierUppercase t ≡ some u → (b : Bool) → all plain t && not (isEmpty (trim t)) ≡ b → accept AlternativeLocation (cond b (fit (map raise (trim t))) Absent) ≡ ok w → Short t
-      go u e true f k = omega (arith, fit-short AlternativeLocation (map raise (trim t)) w k, length-map (trim t) raise)
+      go : (u : Text) → prepareIdentifierUppercase t ≡ some u → (b : Bool) → all plain t && not (isEmpty (trim t)) ≡ b → accept AlternativeLocation (cond b (fit (map toUpper (trim t))) Absent) ≡ ok w → Short t
+      go u e true f k = omega (arith, fit-short AlternativeLocation (map toUpper (trim t)) w k, length-map (trim t) toUpper)
       go u e false f k = absurd (unprepared t u f e)
   location-met (suc (suc n)) t h = absurd (bad-not _ w h)
 
   code-met : (serial flag : ℕ) (t : Text) → accept InsertionCode (optional insertionCode (optionalOf flag t)) ≡ ok w → Flagged flag (Short t) × ((new : Struct 2) × (residueNew serial (present flag t) ≡ some new))
   unfolding residueNew
   code-met serial zero t h = (tt, (_, refl))
-  code-met serial (suc zero) t h = let m = raised-met InsertionCode t h in (m .0, ((record { serial = serial; code = some (toUppercase (trim t)) }, []), rw (m .1)))
+  code-met serial (suc zero) t h = let m = uppercaseOr-met InsertionCode t h in (m .0, ((record { serial = serial; code = some (toUppercase (trim t)) }, []), rw (m .1)))
   code-met serial (suc (suc n)) t h = absurd (bad-not _ w h)
 
 -- ---- an addition that is accepted
@@ -118,7 +118,7 @@ module _ (a : Addition) (p : Prepare) (h : prepare a ≡ ok p) (g : goodValues (
       let n = bind-ok (accept AtomName (atomName (a .name))) _ p (l .2) in
       let cm = chain-met (c .0) (a .chain) (c .1) in
       let im = code-met (i .0) (a .residue) (a .code .flag) (a .code .text) (i .1) in
-      let fm = raised-met (f .0) ConformerName (a .conformer) (f .1) in
+      let fm = uppercaseOr-met (f .0) ConformerName (a .conformer) (f .1) in
       let lm = location-met (l .0) (a .location .flag) (a .location .text) (l .1) in
       let nm = name-met (n .0) (a .name) (n .1) in
       let v = and-both (all finite (floats a) && leb (a .values .element) 118) (leb (a .values .hetero) 1) g in
@@ -129,7 +129,7 @@ module _ (a : Addition) (p : Prepare) (h : prepare a ≡ ok p) (g : goodValues (
             record {
               chain = chained (a .chain) _ (cm .0) (cm .1);
               code = coded (a .residue) (a .code .flag) (a .code .text) (im .1 .0) (im .0) (im .1 .1);
-              conformer = raised-ready (a .conformer) _ (fm .0) (fm .1);
+              conformer = uppercaseOr-ready (a .conformer) _ (fm .0) (fm .1);
               location = located (a .location .flag) (a .location .text) lm;
               name = named (a .name) (nm .0) (nm .1);
               valid = nm .1;

@@ -25,7 +25,7 @@ use Rattle.pdbtbx.specs.Edits.{children, atomNew, conformerNew, residueN
 use Rattle.pdbtbx.specs.Calls.{present, optionOf, argumentsOf}
 use Rattle.pdbtbx.specs.Demand.{Short, Flagged, Domain}
 use Rattle.pdbtbx.proofs.Texts.{same-string}
-use Rattle.pdbtbx.proofs.Names.{Chained, chained, Raised, raised-ready, Named, named, Located, located, matches-given}
+use Rattle.pdbtbx.proofs.Names.{Chained, chained, Uppercased, uppercaseOr-ready, Named, named, Located, located, matches-given}
 use Rattle.pdbtbx.proofs.Vecs.{first-within, last-within, back-last, first-map, last-map, at-map, at-none, current-map, at-never, current-never}
 
 -- ---- what the arguments are prepared to
@@ -44,7 +44,7 @@ coded serial (suc zero) t new s h = go (prepareIdentifierUppercase t) refl h
     go : (p : Option Text) → prepareIdentifierUppercase t ≡ p → Option·map (λ c. (record { serial = serial; code = some c }, [])) p ≡ some new → Coded serial (optionalOf 1 t)
     go none e k = let z : _≡_ {A = ℕ} 0 1 = cc in absurd (omega arith)
     go (some u) e k =
-        let r = raised-ready t u s e in
+        let r = uppercaseOr-ready t u s e in
         record { word = r .word; accepted = rw (r .stored Bad); new = rw (r .text, r .present) }
 coded serial (suc (suc n)) t new s h = absurd s
 
@@ -71,7 +71,7 @@ floats a = a .values .x ∷ a .values .y ∷ a .values .z ∷ a .values .occupan
 pub record Ready (a : Addition) : Type 0 where
   pub chain : Chained (a .chain)
   pub code : Coded (a .residue) (a .code)
-  pub conformer : Raised (a .conformer)
+  pub conformer : Uppercased (a .conformer)
   pub location : Located (a .location)
   pub name : Named (a .name)
   pub valid : validIdentifier (trim (a .name)) ≡ true
@@ -215,7 +215,7 @@ module _ (i : ℕ) (a : Addition) where
         record {
           chain = chained (a .chain) u (d .chain) p;
           code = coded (a .residue) (a .code .flag) (a .code .text) new (d .code) q;
-          conformer = raised-ready (a .conformer) v (d .conformer) s;
+          conformer = uppercaseOr-ready (a .conformer) v (d .conformer) s;
           location = located (a .location .flag) (a .location .text) (d .location);
           name = named (a .name) (d .name) (t .0);
           valid = t .0;

@@ -7,7 +7,7 @@ use mathlib.Core.Option.{Option, some}
 use native.Mathlib.Omega.{arith}
 use lib.ListN.{length}
 use borrow.Author.Tests.{le-leb}
-use Rattle.machine.specs.Lists.{keep, those, sum, andThen}
+use Rattle.machine.specs.Lists.{keep, filter, sum, andThen}
 use Rattle.machine.specs.Answer.{Result, ok, refused, _>>_, need}
 use Rattle.machine.specs.Store.{Machine, flat, records, capacity, layOut, readStore, openRun}
 use Rattle.machine.specs.Find.{hitsIn, size}
@@ -15,7 +15,7 @@ use Rattle.machine.specs.Edit.{Call, Change, machineStep, answer, next, machine
 use Rattle.machine.specs.Demand.{accepts, Accepted}
 use Rattle.machine.specs.declared.Refusal.{Refusal}
 use Rattle.machine.specs.declared.Refusal.the-variants.{NoCapacity}
-use Rattle.laws.specs.Lists.{length-bind}
+use Rattle.laws.specs.Lists.{length-concatMap}
 use Rattle.laws.specs.Good.{Fit}
 use Rattle.laws.specs.Layout.{read-layOut}
 use Rattle.laws.specs.Steps.{step-keeps, refusal-number}
@@ -42,7 +42,7 @@ module _ (n : ℕ) (m : Machine) (cs : List Call) where
     pub pdb : PDB
     pub ran : edits (acceptedOf cs (machineAnswers n m cs)) (pdbOf m) ≡ some (bools, pdb)
     pub held : pdb ≡ pdbOf (machineAfter n m cs)
-    pub founds : map foundBy (those accepts (machineAnswers n m cs)) ≡ map bit bools
+    pub founds : map foundBy (filter accepts (machineAnswers n m cs)) ≡ map bit bools
     pub fit : Fit n (machineAfter n m cs)
 
 refused-not : (m : Machine) (x : Refusal) → accepts (answer m (refused x)) ≡ false
@@ -60,7 +60,7 @@ module _ (n : ℕ) (c : Call) (cs : List Call) (m : Machine) where
     pdb : PDB
     ran : edits (keep (accepts (answer m o)) c (acceptedOf cs (machineAnswers n (next m o) cs))) (pdbOf m) ≡ some (bools, pdb)
     held : pdb ≡ pdbOf (machineAfter n (next m o) cs)
-    founds : map foundBy (those accepts (answer m o ∷ machineAnswers n (next m o) cs)) ≡ map bit bools
+    founds : map foundBy (filter accepts (answer m o ∷ machineAnswers n (next m o) cs)) ≡ map bit bools
     fit : Fit n (machineAfter n (next m o) cs)
 
   passed-over : (x : Refusal) → Together n m cs → After (refused x)
@@ -70,7 +70,7 @@ module _ (n : ℕ) (c : Call) (cs : List Call) (m : Machine) where
         pdb = y .pdb;
         ran = ap (λ (b : Bool). edits (keep b c (acceptedOf cs (machineAnswers n m cs))) (pdbOf m)) (refused-not m x) ∙ y .ran;
         held = y .held;
-        founds = ap (λ (b : Bool). map foundBy (keep b (answer m (refused x)) (those accepts (machineAnswers n m cs)))) (refused-not m x) ∙ y .founds;
+        founds = ap (λ (b : Bool). map foundBy (keep b (answer m (refused x)) (filter accepts (machineAnswers n m cs)))) (refused-not m x) ∙ y .founds;
         fit = y .fit;
       }
 
@@ -116,7 +116,7 @@ together n (c ∷ cs) m f =
 
 -- the crate counts the machine's records
 records-counted : (m : Machine) → sum (countOf 4) (pdbOf m) ≡ length (records m)
-records-counted m = sum-map (countOf 4) (size 4) (structOf 4) (count-size 4) m ∙ sym (length-bind (flat 4) m)
+records-counted m = sum-map (countOf 4) (size 4) (structOf 4) (count-size 4) m ∙ sym (length-concatMap (flat 4) m)
 
 module _ (n : ℕ) (m : Machine) (f : Fit n m) (pdb : PDB) (here : machineFrom pdb ≡ m) (c : Call) (found : Bool) (after : PDB) where
   abbrev Took : Result Change → Type 0
@@ -173,7 +173,7 @@ module _ (w : List ℕ) (calls : List Call) (o : Accepted (openRun w)) where
         bools = both .bools;
         pdb = both .pdb;
         ran = ap (λ (l : List (List ℕ)). edits (acceptedOf calls l) []) (demand3 w calls o .answered) ∙ both .ran;
-        founds = ap (λ (l : List (List ℕ)). map foundBy (those accepts l)) (demand3 w calls o .answered) ∙ both .founds;
+        founds = ap (λ (l : List (List ℕ)). map foundBy (filter accepts l)) (demand3 w calls o .answered) ∙ both .founds;
         words = held ∙ ap (layOut (length w)) (sym back);
         texts = both .held ∙ ap pdbOf (sym back);
         reads = λ t out k. let l = run-listed after t out (store w calls) read k in reads t (l .nodes) (l .tree);

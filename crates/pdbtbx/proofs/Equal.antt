@@ -9,7 +9,7 @@ use lib.Dec.{leb, eqb}
 use borrow.Author.Tests.{eqb-true}
 use Rattle.machine.specs.Lists.{all, same}
 use Rattle.machine.specs.Answer.{Result, ok, _>>_, need, badName}
-use Rattle.machine.specs.Text.{Optional, textOf, trim, trimStart, unpacked, withoutZeros, chainId, raised, conformerName, storedBy, absentOr, alternativeLocation, matches, matchesOptional}
+use Rattle.machine.specs.Text.{Optional, textOf, trim, trimStart, unpacked, withoutZeros, chainId, uppercaseOr, conformerName, storedBy, absentOr, alternativeLocation, matches, matchesOptional}
 use Rattle.machine.specs.Record.{Fields, goodFields}
 use Rattle.machine.specs.Store.{Branch, Machine, records, capacity}
 use Rattle.machine.specs.Kleene.{isTrue}
@@ -87,7 +87,7 @@ filled-chain c h = go (eqb (c .id) 0) refl
     go true e = absurd (false≢true (ap (storedBy chainId) (sym (eqb-true (c .id) 0 e)) ∙ h))
 
 filled-conformer : (c : Fields 1) → goodFields 1 c ≡ true → eqb (c .name) 0 ≡ false
-unfolding goodFields storedBy raised textOf withoutZeros unpacked trim trimStart
+unfolding goodFields storedBy uppercaseOr textOf withoutZeros unpacked trim trimStart
 filled-conformer c h = go (eqb (c .name) 0) refl
   where
     go : (b : Bool) → eqb (c .name) 0 ≡ b → b ≡ false

@@ -7,7 +7,7 @@ use mathlib.Core.List.{List, [], _∷_, _++_, map, map-map, map-append, append-a
 use mathlib.Core.Option.{Option, none, some, Option·map}
 use native.Mathlib.Omega.{arith}
 use lib.Dec.{eqb}
-use Rattle.machine.specs.Lists.{orElse, andThen, keep, those, sum, along}
+use Rattle.machine.specs.Lists.{orElse, andThen, keep, filter, sum, concatMapFrom}
 use Rattle.machine.specs.Record.{Fields, Conformer, Atom, readOut}
 use Rattle.machine.specs.Store.{Branch, flat}
 use Rattle.machine.specs.Kleene.{decided, isHit}
@@ -17,8 +17,8 @@ use Rattle.machine.specs.declared.Tri.the-variants.{False, Undecided}
 use Rattle.machine.specs.declared.Term.{Term}
 use Rattle.machine.specs.declared.Term.the-variants.{ModelSerialNumber, ModelSerialNumberRange, ChainId, ChainIdRange, ResidueSerialNumber, ResidueSerialNumberRange, ResidueInsertionCode, ResidueId, ConformerName, ConformerAlternativeLocation, ConformerId, AtomSerialNumber, AtomSerialNumberRange, AtomName, Element, BFactor, BFactorRange, Occupancy, OccupancyRange, Backbone, SideChain, Hetero}
 use Rattle.laws.specs.Kleene.{toTri}
-use Rattle.laws.specs.Lists.{length-bind}
-use Rattle.laws.specs.Counting.{those-append}
+use Rattle.laws.specs.Lists.{length-concatMap}
+use Rattle.laws.specs.Counting.{filter-append}
 use Rattle.laws.specs.Scan.{enter-over}
 use Rattle.pdbtbx.specs.Std.{abs, withinEpsilon}
 use Rattle.pdbtbx.specs.Structs.{Says}
@@ -148,10 +148,10 @@ numbersOf z = z .numbers
 
 unfoldable pub branchItem : (k : ℕ) → ℕ → Branch k → Item Says k
 branchItem zero n a = (n, saysOf zero a)
-branchItem (suc k) n t = (n, saysOf (suc k) (t .0), along (size k) (λ i u. branchItem k i u ∷ []) (suc n) (t .1))
+branchItem (suc k) n t = (n, saysOf (suc k) (t .0), concatMapFrom (size k) (λ i u. branchItem k i u ∷ []) (suc n) (t .1))
 
 abbrev pub branchItems : (k : ℕ) → ℕ → List (Branch k) → List (Item Says k)
-branchItems k n ts = along (size k) (λ i t. branchItem k i t ∷ []) n ts
+branchItems k n ts = concatMapFrom (size k) (λ i t. branchItem k i t ∷ []) n ts
 
 pub sum-map : {A B : Type 0} (f : A → ℕ) (g : B → ℕ) (u : B → A) → ((x : B) → f (u x) ≡ g x) → (xs : List B) → sum f (map u xs) ≡ sum g xs
 sum-map f g u h [] = refl
@@ -161,20 +161,20 @@ sum-map f g u h (x ∷ xs) = ap₂ _+_ (h x) (sum-map f g u h xs)
 pub count-size : (k : ℕ) (t : Branch k) → countOf k (structOf k t) ≡ size k t
 unfolding countOf structOf flat
 count-size zero t = refl
-count-size (suc k) t = ap suc (sum-map (countOf k) (size k) (structOf k) (count-size k) (t .1) ∙ sym (length-bind (flat k) (t .1)))
+count-size (suc k) t = ap suc (sum-map (countOf k) (size k) (structOf k) (count-size k) (t .1) ∙ sym (length-concatMap (flat k) (t .1)))
 
-along-map : {A B C : Type 0} (f : A → ℕ) (g : B → ℕ) (u : B → A) (c : ℕ → A → C) (d : ℕ → B → C) → ((x : B) → f (u x) ≡ g x) → ((n : ℕ) (x : B) → c n (u x) ≡ d n x)
-    → (n : ℕ) (xs : List B) → along f (λ i x. c i x ∷ []) n (map u xs) ≡ along g (λ i x. d i x ∷ []) n xs
-along-map f g u c d h k n [] = refl
-along-map f g u c d h k n (x ∷ xs) = ap₂ _∷_ (k n x) (ap (λ (e : ℕ). along f (λ i y. c i y ∷ []) (n + e) (map u xs)) (h x) ∙ along-map f g u c d h k (n + g x) xs)
+concatMapFrom-map : {A B C : Type 0} (f : A → ℕ) (g : B → ℕ) (u : B → A) (c : ℕ → A → C) (d : ℕ → B → C) → ((x : B) → f (u x) ≡ g x) → ((n : ℕ) (x : B) → c n (u x) ≡ d n x)
+    → (n : ℕ) (xs : List B) → concatMapFrom f (λ i x. c i x ∷ []) n (map u xs) ≡ concatMapFrom g (λ i x. d i x ∷ []) n xs
+concatMapFrom-map f g u c d h k n [] = refl
+concatMapFrom-map f g u c d h k n (x ∷ xs) = ap₂ _∷_ (k n x) (ap (λ (e : ℕ). concatMapFrom f (λ i y. c i y ∷ []) (n + e) (map u xs)) (h x) ∙ concatMapFrom-map f g u c d h k (n + g x) xs)
 
 item-same : (k n : ℕ) (t : Branch k) → item k n (structOf k t) ≡ branchItem k n t
 unfolding item structOf branchItem
 item-same zero n t = refl
-item-same (suc k) n t = ap (λ (l : List (Item Says k)). (n, saysOf (suc k) (t .0), l)) (along-map (countOf k) (size k) (structOf k) (item k) (branchItem k) (count-size k) (item-same k) (suc n) (t .1))
+item-same (suc k) n t = ap (λ (l : List (Item Says k)). (n, saysOf (suc k) (t .0), l)) (concatMapFrom-map (countOf k) (size k) (structOf k) (item k) (branchItem k) (count-size k) (item-same k) (suc n) (t .1))
 
 pub items-same : (k n : ℕ) (ts : List (Branch k)) → items k n (structsOf k ts) ≡ branchItems k n ts
-items-same k n ts = along-map (countOf k) (size k) (structOf k) (item k) (branchItem k) (count-size k) (item-same k) n ts
+items-same k n ts = concatMapFrom-map (countOf k) (size k) (structOf k) (item k) (branchItem k) (count-size k) (item-same k) n ts
 
 keep-same : {A B C : Type 0} (f : A → C) (g : B → C) (b : Bool) (x : A) (y : B) (xs : List A) (ys : List B) → f x ≡ g y → map f xs ≡ map g ys → map f (keep b x xs) ≡ map g (keep b y ys)
 keep-same f g true x y xs ys e i = ap₂ _∷_ e i
@@ -184,7 +184,7 @@ module _ (s : Search Term) where
   -- what is listed below a site is what the site's atoms give
   abbrev pub Bridge : (k : ℕ) → Site → ℕ → List (Branch k) → Type 0
   Bridge k z n ts =
-      map (λ (h : List ℕ). z .numbers ++ h) (listed Says matchesAt k (toldAt (z .place)) s (branchItems k n ts)) ≡ map numbersOf (those (hit s) (along (size k) (atomsIn k z) n ts))
+      map (λ (h : List ℕ). z .numbers ++ h) (listed Says matchesAt k (toldAt (z .place)) s (branchItems k n ts)) ≡ map numbersOf (filter (hit s) (concatMapFrom (size k) (atomsIn k z) n ts))
 
   module _ (z : Site) (w : Above zero (z .place)) where
     -- a test of an atom, with what was told above it
@@ -194,21 +194,21 @@ module _ (s : Search Term) where
     same-hit : (n : ℕ) (a : Branch zero) → told (n, saysOf zero a) ≡ hit s (below zero n a z)
     same-hit n a = ap isHit (value-same _ _ (λ t. ap toTri (told-enter zero (omega arith) a (z .place) w t) ∙ told-value (enter zero a (z .place)) t) s)
 
-    atoms : (n : ℕ) (ts : List (Branch zero)) → map (λ (a : Item Says zero). z .numbers ++ (a .0 ∷ [])) (those told (branchItems zero n ts)) ≡ map numbersOf (those (hit s) (along (size zero) (atomsIn zero z) n ts))
+    atoms : (n : ℕ) (ts : List (Branch zero)) → map (λ (a : Item Says zero). z .numbers ++ (a .0 ∷ [])) (filter told (branchItems zero n ts)) ≡ map numbersOf (filter (hit s) (concatMapFrom (size zero) (atomsIn zero z) n ts))
     unfolding branchItem atomsIn
     atoms n [] = refl
     atoms n (a ∷ ts) =
-        ap (λ (b : Bool). map (λ (x : Item Says zero). z .numbers ++ (x .0 ∷ [])) (keep b (n, saysOf zero a) (those told (branchItems zero (n + size zero a) ts)))) (same-hit n a)
+        ap (λ (b : Bool). map (λ (x : Item Says zero). z .numbers ++ (x .0 ∷ [])) (keep b (n, saysOf zero a) (filter told (branchItems zero (n + size zero a) ts)))) (same-hit n a)
         ∙ keep-same _ _ (hit s (below zero n a z)) (n, saysOf zero a) (below zero n a z) _ _ refl (atoms (n + size zero a) ts)
 
   bridge-atoms : (z : Site) → Above zero (z .place) → (n : ℕ) (ts : List (Branch zero)) → Bridge zero z n ts
   unfolding listed
-  bridge-atoms z w n ts = map-map _ _ (those (told z w) (branchItems zero n ts)) ∙ atoms z w n ts
+  bridge-atoms z w n ts = map-map _ _ (filter (told z w) (branchItems zero n ts)) ∙ atoms z w n ts
 
   module _ (k : ℕ) (l : suc k ≤ 4) (below-it : (z : Site) → Above k (z .place) → (n : ℕ) (ts : List (Branch k)) → Bridge k z n ts) (z : Site) (w : Above (suc k) (z .place)) where
     one : (n : ℕ) (t : Branch (suc k))
         → map (λ (h : List ℕ). z .numbers ++ h) (map (λ (h : List ℕ). n ∷ h) (listed Says matchesAt k (λ u. orElse (toldAt (z .place) u) (matchesAt (suc k) (saysOf (suc k) (t .0)) u)) s (branchItems k (suc n) (t .1))))
-        ≡ map numbersOf (those (hit s) (atomsIn (suc k) z n t))
+        ≡ map numbersOf (filter (hit s) (atomsIn (suc k) z n t))
     unfolding atomsIn
     one n t =
         let y = below (suc k) n (t .0) z in
@@ -222,8 +222,8 @@ module _ (s : Search Term) where
     each n (t ∷ ts) =
         map-append _ (map (λ (h : List ℕ). n ∷ h) (listed Says matchesAt k (λ u. orElse (toldAt (z .place) u) (matchesAt (suc k) (saysOf (suc k) (t .0)) u)) s (branchItems k (suc n) (t .1)))) _
         ∙ ap₂ _++_ (one n t) (each (n + size (suc k) t) ts)
-        ∙ sym (map-append numbersOf (those (hit s) (atomsIn (suc k) z n t)) _)
-        ∙ ap (map numbersOf) (sym (those-append (hit s) (atomsIn (suc k) z n t) _))
+        ∙ sym (map-append numbersOf (filter (hit s) (atomsIn (suc k) z n t)) _)
+        ∙ ap (map numbersOf) (sym (filter-append (hit s) (atomsIn (suc k) z n t) _))
 
   pub bridge : (k : ℕ) → k ≤ 4 → (z : Site) → Above k (z .place) → (n : ℕ) (ts : List (Branch k)) → Bridge k z n ts
   bridge zero l = bridge-atoms
@@ -244,7 +244,7 @@ start p = record { numbers = p; place = nowhere }
 
 -- the crate's `find` at any of its levels: what it lists, after the numbers of the start, is document 01's value at the atoms below, with nothing of the start known
 pub found-below : (s : Search Term) (k : ℕ) → k ≤ 4 → (p : List ℕ) (n : ℕ) (ts : List (Branch k))
-    → map (λ (h : List ℕ). p ++ h) (findBelow k s n (structsOf k ts)) ≡ map numbersOf (those (hit s) (along (size k) (atomsIn k (start p)) n ts))
+    → map (λ (h : List ℕ). p ++ h) (findBelow k s n (structsOf k ts)) ≡ map numbersOf (filter (hit s) (concatMapFrom (size k) (atomsIn k (start p)) n ts))
 unfolding findBelow toldAt
 found-below s k l p n ts =
     ap (λ (xs : List (Item Says k)). map (λ (h : List ℕ). p ++ h) (find Says matchesAt k s xs)) (items-same k n ts)

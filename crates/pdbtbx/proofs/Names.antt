@@ -10,14 +10,14 @@ use lib.Dec.{leb, ltb, eqb}
 use borrow.Author.Tests.{leb-true, ltb-true, eqb-true, eqb-false, ne-eqb, le-leb, lt-ltb}
 use Rattle.machine.specs.Lists.{isEmpty, all, same, andThen}
 use Rattle.machine.specs.Answer.{ok}
-use Rattle.machine.specs.Text.{Optional, optionalOf, optional, pack, packed, unpacked, withoutZeros, textOf, plain, raise, trim, fit, chainId, raised, alternativeLocation, atomName, matches, matchesOptional}
+use Rattle.machine.specs.Text.{Optional, optionalOf, optional, pack, packed, unpacked, withoutZeros, textOf, plain, toUpper, trim, fit, chainId, uppercaseOr, alternativeLocation, atomName, matches, matchesOptional}
 use Rattle.machine.specs.Edit.{accept}
 use Rattle.machine.specs.declared.Name.the-variants.{AlternativeLocation}
 use Rattle.machine.specs.declared.Prepared.{Prepared}
 use Rattle.machine.specs.declared.Prepared.the-variants.{Stored, Absent}
 use Rattle.laws.specs.Lists.{and-both, and-true, same-true, same-refl}
 use Rattle.laws.specs.Packing.{both-ways, pack-textOf, textOf-pack}
-use Rattle.laws.specs.Text.{trim-twice, all-trim, all-raise, trim-raise, map-raise-twice, isEmpty-raise}
+use Rattle.laws.specs.Text.{trim-twice, all-trim, all-toUpper, trim-toUpper, map-toUpper-twice, isEmpty-toUpper}
 use Rattle.pdbtbx.specs.Std.{Text, toUppercase, sameOption}
 use Rattle.pdbtbx.specs.Structs.{checkChar, validIdentifier, prepareIdentifier, prepareIdentifierUppercase}
 use Rattle.pdbtbx.specs.Words.{string, optionString}
@@ -68,9 +68,9 @@ chained t u l h =
 
 -- ---- what is raised
 
-pub record Raised (t : Text) : Type 0 where
+pub record Uppercased (t : Text) : Type 0 where
   pub word : ℕ
-  pub stored : (other : Prepared) → raised t other ≡ Stored word
+  pub stored : (other : Prepared) → uppercaseOr t other ≡ Stored word
   pub text : prepareIdentifierUppercase t ≡ some (string word)
   pub again : prepareIdentifierUppercase (string word) ≡ some (string word)
   pub present : optionString word ≡ some (string word)
@@ -107,7 +107,7 @@ module _ (t u : Text) (l : length (trim t) ≤ 8) (h : prepareIdentifierUppercas
   not-empty = and-both (validIdentifier t) (not (isEmpty (trim t))) test .1
 
   kept : textOf (pack (toUppercase (trim t))) ≡ toUppercase (trim t)
-  kept = textOf-pack (toUppercase (trim t)) (omega (arith, length-map (trim t) raise)) (all-raise (trim t) ∙ all-trim t all-plain)
+  kept = textOf-pack (toUppercase (trim t)) (omega (arith, length-map (trim t) toUpper)) (all-toUpper (trim t) ∙ all-trim t all-plain)
 
   once : prepareIdentifierUppercase t ≡ some (toUppercase (trim t))
   unfolding prepareIdentifierUppercase prepareIdentifier
@@ -116,28 +116,28 @@ module _ (t u : Text) (l : length (trim t) ≤ 8) (h : prepareIdentifierUppercas
   twice : prepareIdentifierUppercase (toUppercase (trim t)) ≡ some (toUppercase (trim t))
   unfolding prepareIdentifierUppercase prepareIdentifier
   twice =
-      let e : trim (toUppercase (trim t)) ≡ toUppercase (trim t) = trim-raise (trim t) ∙ ap toUppercase (trim-twice t) in
-      let v : validIdentifier (toUppercase (trim t)) ≡ true = valid-plain (toUppercase (trim t)) ∙ all-raise (trim t) ∙ all-trim t all-plain in
-      let n : not (isEmpty (toUppercase (trim t))) ≡ true = ap not (isEmpty-raise (trim t)) ∙ not-empty in
-      rw (e, v, n) (ap {B = Option Text} some (map-raise-twice (trim t)))
+      let e : trim (toUppercase (trim t)) ≡ toUppercase (trim t) = trim-toUpper (trim t) ∙ ap toUppercase (trim-twice t) in
+      let v : validIdentifier (toUppercase (trim t)) ≡ true = valid-plain (toUppercase (trim t)) ∙ all-toUpper (trim t) ∙ all-trim t all-plain in
+      let n : not (isEmpty (toUppercase (trim t))) ≡ true = ap not (isEmpty-toUpper (trim t)) ∙ not-empty in
+      rw (e, v, n) (ap {B = Option Text} some (map-toUpper-twice (trim t)))
 
-  pub raised-ready : Raised t
-  unfolding raised
-  raised-ready =
+  pub uppercaseOr-ready : Uppercased t
+  unfolding uppercaseOr
+  uppercaseOr-ready =
       record {
         word = pack (toUppercase (trim t));
-        stored = λ other. rw (all-plain, not-empty, length-map (trim t) raise, le-leb (length (trim t)) 8 l);
+        stored = λ other. rw (all-plain, not-empty, length-map (trim t) toUpper, le-leb (length (trim t)) 8 l);
         text = once ∙ ap {B = Option Text} some (sym kept);
         again = ap prepareIdentifierUppercase kept ∙ twice ∙ ap {B = Option Text} some (sym kept);
-        present = word-present (pack (toUppercase (trim t))) (ap (λ (s : Text). not (isEmpty s)) kept ∙ ap not (isEmpty-raise (trim t)) ∙ not-empty);
+        present = word-present (pack (toUppercase (trim t))) (ap (λ (s : Text). not (isEmpty s)) kept ∙ ap not (isEmpty-toUpper (trim t)) ∙ not-empty);
       }
 
 -- what isn't prepared is not raised
-pub raised-none : (t : Text) (other : Prepared) → prepareIdentifierUppercase t ≡ none → raised t other ≡ other
-unfolding raised prepareIdentifierUppercase prepareIdentifier
-raised-none t other h = ap (λ (b : Bool). cond (b && not (isEmpty (trim t))) (fit (map raise (trim t))) other) (sym (valid-plain t)) ∙ go (validIdentifier t && not (isEmpty (trim t))) h
+pub uppercaseOr-none : (t : Text) (other : Prepared) → prepareIdentifierUppercase t ≡ none → uppercaseOr t other ≡ other
+unfolding uppercaseOr prepareIdentifierUppercase prepareIdentifier
+uppercaseOr-none t other h = ap (λ (b : Bool). cond (b && not (isEmpty (trim t))) (fit (map toUpper (trim t))) other) (sym (valid-plain t)) ∙ go (validIdentifier t && not (isEmpty (trim t))) h
   where
-    go : (b : Bool) → Option·map toUppercase (cond b (some (trim t)) none) ≡ none → cond b (fit (map raise (trim t))) other ≡ other
+    go : (b : Bool) → Option·map toUppercase (cond b (some (trim t)) none) ≡ none → cond b (fit (map toUpper (trim t))) other ≡ other
     go false e = refl
     go true e = absurd (Option·none-ne-some (toUppercase (trim t)) (sym e))
 
@@ -154,8 +154,8 @@ named t l h =
     let p : all plain (trim t) ≡ true = sym (valid-plain (trim t)) ∙ h in
     record {
       word = pack (toUppercase (trim t));
-      stored = rw (p, length-map (trim t) raise, le-leb (length (trim t)) 8 l);
-      text = textOf-pack (toUppercase (trim t)) (omega (arith, length-map (trim t) raise)) (all-raise (trim t) ∙ p) ∙ ap toUppercase (sym (trim-twice t));
+      stored = rw (p, length-map (trim t) toUpper, le-leb (length (trim t)) 8 l);
+      text = textOf-pack (toUppercase (trim t)) (omega (arith, length-map (trim t) toUpper)) (all-toUpper (trim t) ∙ p) ∙ ap toUppercase (sym (trim-twice t));
     }
 
 -- ---- locations: a bad or blank one is absent
@@ -170,8 +170,8 @@ located zero t s = record { word = 0; accepted = refl; text = refl }
 located (suc zero) t s = go (prepareIdentifierUppercase t) refl
   where
     go : (p : Option Text) → prepareIdentifierUppercase t ≡ p → Located (optionalOf 1 t)
-    go none e = record { word = 0; accepted = rw (raised-none t Absent e); text = e }
-    go (some u) e = let r = raised-ready t u (s u e) e in record { word = r .word; accepted = rw (r .stored Absent); text = r .text ∙ sym (r .present) }
+    go none e = record { word = 0; accepted = rw (uppercaseOr-none t Absent e); text = e }
+    go (some u) e = let r = uppercaseOr-ready t u (s u e) e in record { word = r .word; accepted = rw (r .stored Absent); text = r .text ∙ sym (r .present) }
 located (suc (suc n)) t s = absurd s
 
 -- a code as given, beside one that is stored

@@ -8,7 +8,7 @@ use native.Mathlib.Omega.{arith}
 use lib.ListN.{length}
 use lib.Dec.{ltb}
 use borrow.Author.Tests.{lt-ltb}
-use Rattle.machine.specs.Lists.{isEmpty, those, nth, splice, firstWhere, andThen}
+use Rattle.machine.specs.Lists.{isEmpty, filter, nth, splice, firstWhere, andThen}
 use Rattle.machine.specs.Record.{Fields}
 use Rattle.machine.specs.Store.{Branch}
 use Rattle.machine.specs.Edit.{up, branchAt, replaceAt, root, without, withChildren, keepAtoms, nonEmpty}
@@ -17,7 +17,7 @@ use Rattle.pdbtbx.specs.Std.{Answer, at, remove}
 use Rattle.pdbtbx.specs.Structs.{Atom, Struct}
 use Rattle.pdbtbx.specs.Words.{saysOf, structOf, structsOf}
 use Rattle.pdbtbx.specs.Edits.{children, atPosition, removeAt, removeIndex, removeById, removeAtomsBy, removeEmpty, join, structAt, joinAt}
-use Rattle.pdbtbx.proofs.Vecs.{those-map, at-map, at-none, at-panic, first-all, first-within, Within}
+use Rattle.pdbtbx.proofs.Vecs.{filter-map, at-map, at-none, at-panic, first-all, first-within, Within}
 
 -- ---- lists
 
@@ -221,15 +221,15 @@ pub remove-empty : (k : ℕ) (t : Branch (suc (suc k))) → removeEmpty k (struc
 unfolding removeEmpty structOf nonEmpty
 remove-empty zero t =
     ap (λ (l : List (Struct 1)). (saysOf 2 (t .0), l))
-    (those-map (structOf 1) _ _ (λ u. filled (structOf 0) (u .1)) (t .1) ∙ ap (λ (l : List (Branch 1)). structsOf 1 (those (λ u. not (isEmpty (u .1))) l)) (sym (map-id (t .1))))
+    (filter-map (structOf 1) _ _ (λ u. filled (structOf 0) (u .1)) (t .1) ∙ ap (λ (l : List (Branch 1)). structsOf 1 (filter (λ u. not (isEmpty (u .1))) l)) (sym (map-id (t .1))))
 remove-empty (suc k) t =
     ap (λ (l : List (Struct (suc (suc k)))). (saysOf (suc (suc (suc k))) (t .0), l))
-    (ap (those (λ (c : Struct (suc (suc k))). ltb 0 (length (c .1)))) (map-both (removeEmpty k) (structOf (suc (suc k))) (structOf (suc (suc k))) _ (remove-empty k) (t .1))
-    ∙ those-map (structOf (suc (suc k))) _ _ (λ u. filled (structOf (suc k)) (u .1)) (map (λ u. (u .0, nonEmpty (suc k) (u .1))) (t .1)))
+    (ap (filter (λ (c : Struct (suc (suc k))). ltb 0 (length (c .1)))) (map-both (removeEmpty k) (structOf (suc (suc k))) (structOf (suc (suc k))) _ (remove-empty k) (t .1))
+    ∙ filter-map (structOf (suc (suc k))) _ _ (λ u. filled (structOf (suc k)) (u .1)) (map (λ u. (u .0, nonEmpty (suc k) (u .1))) (t .1)))
 
 module _ (predicate : Atom → Bool) (p : Fields zero → Bool) (agree : (a : Fields zero) → predicate (saysOf zero a) ≡ not (p a)) where
   pub remove-atoms-by : (k : ℕ) (ts : List (Branch k)) → removeAtomsBy k predicate (structsOf k ts) ≡ structsOf k (keepAtoms k p ts)
   unfolding removeAtomsBy structOf keepAtoms
-  remove-atoms-by zero ts = those-map (structOf 0) _ p (λ a. ap not (agree a) ∙ Bool·not-not (p a)) ts
+  remove-atoms-by zero ts = filter-map (structOf 0) _ p (λ a. ap not (agree a) ∙ Bool·not-not (p a)) ts
   remove-atoms-by (suc k) ts =
       map-both _ (structOf (suc k)) (structOf (suc k)) _ (λ t. ap (λ (l : List (Struct k)). (saysOf (suc k) (t .0), l)) (remove-atoms-by k (t .1))) ts

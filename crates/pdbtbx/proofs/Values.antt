@@ -5,14 +5,14 @@ use mathlib.Core.Path.{_≡_, refl, sym, ap, _∙_}
 use mathlib.Core.Bool.{Bool, true, false, not, xor, false≢true}
 use mathlib.Core.List.{List, [], _∷_, _++_, map}
 use mathlib.Core.Option.{Option, none, some, Option·none-ne-some}
-use Rattle.machine.specs.Lists.{orElse, keep, those, bind}
+use Rattle.machine.specs.Lists.{orElse, keep, filter, concatMap}
 use Rattle.machine.specs.Kleene.{decided, notT, applyT, isHit}
 use Rattle.machine.specs.declared.Tri.{Tri}
 use Rattle.machine.specs.declared.Tri.the-variants.{False, Undecided}
 use Rattle.machine.specs.declared.Ops.{Ops}
 use Rattle.machine.specs.declared.Ops.the-variants.{And, Or, Xor}
 use Rattle.laws.specs.Kleene.{_⊑_, toTri, and-false, or-true}
-use Rattle.laws.specs.Counting.{those-same}
+use Rattle.laws.specs.Counting.{filter-same}
 use Rattle.pdbtbx.specs.Std.{unwrapOr}
 use Rattle.pdbtbx.specs.Search.{Search, Operator, Not, Single, Known, isKnown, complete, arms, negated, simplify, answered, addInfo}
 use Rattle.pdbtbx.specs.Find.{Item, find}
@@ -175,21 +175,21 @@ known-false (some false) h = refl
 
 -- ---- lists
 
-those-none : {A : Type 0} (p : A → Bool) → ((x : A) → p x ≡ false) → (xs : List A) → those p xs ≡ []
-those-none p h [] = refl
-those-none p h (x ∷ xs) = rw (h x) (those-none p h xs)
+filter-none : {A : Type 0} (p : A → Bool) → ((x : A) → p x ≡ false) → (xs : List A) → filter p xs ≡ []
+filter-none p h [] = refl
+filter-none p h (x ∷ xs) = rw (h x) (filter-none p h xs)
 
-bind-none : {A B : Type 0} (f : A → List B) → ((x : A) → f x ≡ []) → (xs : List A) → bind f xs ≡ []
-bind-none f h [] = refl
-bind-none f h (x ∷ xs) = rw (h x) (bind-none f h xs)
+concatMap-none : {A B : Type 0} (f : A → List B) → ((x : A) → f x ≡ []) → (xs : List A) → concatMap f xs ≡ []
+concatMap-none f h [] = refl
+concatMap-none f h (x ∷ xs) = rw (h x) (concatMap-none f h xs)
 
 -- what a filter leaves out gives nothing
-bind-those : {A B C : Type 0} (f : B → List C) (p : B → Bool) (h : A → B) (g : A → List C)
-    → ((x : A) → p (h x) ≡ true → f (h x) ≡ g x) → ((x : A) → p (h x) ≡ false → g x ≡ []) → (xs : List A) → bind f (those p (map h xs)) ≡ bind g xs
-bind-those f p h g yea nay [] = refl
-bind-those f p h g yea nay (x ∷ xs) = go (p (h x)) refl (bind-those f p h g yea nay xs)
+concatMap-filter : {A B C : Type 0} (f : B → List C) (p : B → Bool) (h : A → B) (g : A → List C)
+    → ((x : A) → p (h x) ≡ true → f (h x) ≡ g x) → ((x : A) → p (h x) ≡ false → g x ≡ []) → (xs : List A) → concatMap f (filter p (map h xs)) ≡ concatMap g xs
+concatMap-filter f p h g yea nay [] = refl
+concatMap-filter f p h g yea nay (x ∷ xs) = go (p (h x)) refl (concatMap-filter f p h g yea nay xs)
   where
-    go : (b : Bool) → p (h x) ≡ b → bind f (those p (map h xs)) ≡ bind g xs → bind f (keep b (h x) (those p (map h xs))) ≡ g x ++ bind g xs
+    go : (b : Bool) → p (h x) ≡ b → concatMap f (filter p (map h xs)) ≡ concatMap g xs → concatMap f (keep b (h x) (filter p (map h xs))) ≡ g x ++ concatMap g xs
     go true e i = rw (yea x e, i)
     go false e i = rw (nay x e, i)
 
@@ -198,8 +198,8 @@ bind-those f p h g yea nay (x ∷ xs) = go (p (h x)) refl (bind-those f p h g ye
 module _ (F : ℕ → Type 0) {T : Type 0} (matches : (k : ℕ) → F k → T → Option Bool) where
   -- the hits among items: where the search isn't false, each term having what the first level that tells it tells; nothing is left out early
   unfoldable pub listed : (k : ℕ) → (T → Option Bool) → Search T → List (Item F k) → List (List ℕ)
-  listed zero told s items = map (λ (a : Item F zero). a .0 ∷ []) (those (λ (a : Item F zero). isHit (value (λ t. toTri (orElse (told t) (matches zero (a .1) t))) s)) items)
-  listed (suc k) told s items = bind (λ (m : Item F (suc k)). map (λ (h : List ℕ). m .0 ∷ h) (listed k (λ t. orElse (told t) (matches (suc k) (m .1) t)) s (m .2))) items
+  listed zero told s items = map (λ (a : Item F zero). a .0 ∷ []) (filter (λ (a : Item F zero). isHit (value (λ t. toTri (orElse (told t) (matches zero (a .1) t))) s)) items)
+  listed (suc k) told s items = concatMap (λ (m : Item F (suc k)). map (λ (h : List ℕ). m .0 ∷ h) (listed k (λ t. orElse (told t) (matches (suc k) (m .1) t)) s (m .2))) items
 
   -- q is s with what was told
   abbrev pub Told : (T → Option Bool) → Search T → Search T → Type 0
@@ -212,15 +212,15 @@ module _ (F : ℕ → Type 0) {T : Type 0} (matches : (k : ℕ) → F k → T �
   unfolding listed
   false-below zero told s h items =
       ap (map (λ (a : Item F zero). a .0 ∷ []))
-      (those-none _ (λ a. ap isHit (value-same _ _ (λ t. sym (tri-else (told t) (matches zero (a .1) t))) s ∙ h (λ t. toTri (matches zero (a .1) t)))) items)
+      (filter-none _ (λ a. ap isHit (value-same _ _ (λ t. sym (tri-else (told t) (matches zero (a .1) t))) s ∙ h (λ t. toTri (matches zero (a .1) t)))) items)
   false-below (suc k) told s h items =
-      bind-none _
+      concatMap-none _
       (λ m. ap (map (λ (l : List ℕ). m .0 ∷ l)) (false-below k (λ t. orElse (told t) (matches (suc k) (m .1) t)) s (λ w. sym (value-same _ _ (λ t. over-else (told t) (matches (suc k) (m .1) t) (w t)) s) ∙ h _) (m .2)))
       items
 
   pub find-listed : (k : ℕ) (told : T → Option Bool) (s q : Search T) → Told told s q → (items : List (Item F k)) → find F matches k q items ≡ listed k told s items
   unfolding listed find
-  find-listed zero told s q h items = ap (map (λ (a : Item F zero). a .0 ∷ [])) (those-same _ _ at items)
+  find-listed zero told s q h items = ap (map (λ (a : Item F zero). a .0 ∷ [])) (filter-same _ _ at items)
     where
       at : (a : Item F zero) → unwrapOr true (complete (addInfo (matches zero (a .1)) q)) ≡ isHit (value (λ t. toTri (orElse (told t) (matches zero (a .1) t))) s)
       at a =
@@ -228,7 +228,7 @@ module _ (F : ℕ → Type 0) {T : Type 0} (matches : (k : ℕ) → F k → T �
           hit-unwrap (complete (addInfo f q))
           ∙ ap isHit (add-complete f q ∙ told-more told f s q h untold ∙ value-same _ _ (λ t. over-open (orElse (told t) (f t))) s)
   find-listed (suc k) told s q h items =
-      bind-those _ _ _ _
+      concatMap-filter _ _ _ _
       (λ m e. ap (map (λ (l : List ℕ). m .0 ∷ l)) (find-listed k (λ t. orElse (told t) (matches (suc k) (m .1) t)) s (addInfo (matches (suc k) (m .1)) q) (told-more told (matches (suc k) (m .1)) s q h) (m .2)))
       (λ m e. ap (map (λ (l : List ℕ). m .0 ∷ l)) (false-below k (λ t. orElse (told t) (matches (suc k) (m .1) t)) s (λ w. sym (told-more told (matches (suc k) (m .1)) s q h w) ∙ known-value w _ (some false) (known-false _ e)) (m .2)))
       items

@@ -6,7 +6,7 @@ use mathlib.Core.List.{List, [], _∷_, _++_, map, map-append, reverse, reverse-
 use mathlib.Core.Option.{Option, none, some, Option·map}
 use native.Mathlib.Omega.{arith}
 use lib.ListN.{length, length-reverse}
-use Rattle.machine.specs.Lists.{keep, those, orElse, nth, splice, firstWhere, lastWhere}
+use Rattle.machine.specs.Lists.{keep, filter, orElse, nth, splice, firstWhere, lastWhere}
 use Rattle.machine.specs.Edit.{putIn}
 use Rattle.laws.specs.Lists.{All}
 use Rattle.pdbtbx.specs.Std.{Answer, at, positionFromBack, onCurrent}
@@ -73,11 +73,11 @@ module _ {A B : Type 0} (u : B → A) where
   last-map q p h [] = refl
   last-map q p h (t ∷ ts) = rw (h t, last-map q p h ts)
 
-  pub those-map : (p : A → Bool) (q : B → Bool) → ((t : B) → p (u t) ≡ q t) → (ts : List B) → those p (map u ts) ≡ map u (those q ts)
-  those-map p q h [] = refl
-  those-map p q h (t ∷ ts) = rw (h t) (go (q t) (those-map p q h ts))
+  pub filter-map : (p : A → Bool) (q : B → Bool) → ((t : B) → p (u t) ≡ q t) → (ts : List B) → filter p (map u ts) ≡ map u (filter q ts)
+  filter-map p q h [] = refl
+  filter-map p q h (t ∷ ts) = rw (h t) (go (q t) (filter-map p q h ts))
     where
-      go : (b : Bool) → those p (map u ts) ≡ map u (those q ts) → keep b (u t) (those p (map u ts)) ≡ map u (keep b t (those q ts))
+      go : (b : Bool) → filter p (map u ts) ≡ map u (filter q ts) → keep b (u t) (filter p (map u ts)) ≡ map u (keep b t (filter q ts))
       go true e = ap (λ (l : List A). u t ∷ l) e
       go false e = e
 

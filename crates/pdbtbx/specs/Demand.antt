@@ -7,7 +7,7 @@ use mathlib.Core.List.{List, [], _∷_, _++_, map}
 use mathlib.Core.Option.{some}
 use lib.ListN.{length, getD}
 use lib.Dec.{leb}
-use Rattle.machine.specs.Lists.{keep, those, sum, along, same}
+use Rattle.machine.specs.Lists.{keep, filter, sum, concatMapFrom, same}
 use Rattle.machine.specs.Answer.{ok, editedNumbers}
 use Rattle.machine.specs.Text.{trim}
 use Rattle.machine.specs.Store.{Branch, stored, capacity, layOut, openRun}
@@ -61,7 +61,7 @@ Above k e = window 1 (4 - k) e ≡ e
 abbrev pub FindsFrom : (t : List ℕ) (k : ℕ) (z : Site) (n : ℕ) (ts : List (Branch k)) → Type 0
 FindsFrom t k z n ts =
     map (λ (h : List ℕ). z .numbers ++ h) (findBelow k (searchOf t) n (structsOf k ts))
-    ≡ map (λ s. s .numbers) (those (λ s. isHit (treeValue (termValue tables (window (5 - k) 5 (s .place))) t)) (along (size k) (atomsIn k z) n ts))
+    ≡ map (λ s. s .numbers) (filter (λ s. isHit (treeValue (termValue tables (window (5 - k) 5 (s .place))) t)) (concatMapFrom (size k) (atomsIn k z) n ts))
 
 -- ---- the domain
 
@@ -145,7 +145,7 @@ module _ (w : List ℕ) (calls : List Call) where
     pub pdb : PDB
     pub ran : edits (acceptedOf calls answers) [] ≡ some (bools, pdb)
     -- the field found of each accepted result is what the crate's call returned
-    pub founds : map foundBy (those accepts answers) ≡ map bit bools
+    pub founds : map foundBy (filter accepts answers) ≡ map bit bools
     -- the store's words are the crate's structure, packed and laid out; its texts are the texts of those words, so packing lost nothing
     pub words : store ≡ layOut (length w) (machineFrom pdb)
     pub texts : pdb ≡ pdbOf (machineFrom pdb)

@@ -6,7 +6,7 @@ use mathlib.Core.List.{List, [], _∷_, _++_, map}
 use mathlib.Core.Option.{Option, none, some, Option·map}
 use lib.ListN.{length}
 use lib.Dec.{eqb, ltb}
-use Rattle.machine.specs.Lists.{those, nth, andThen, all, same}
+use Rattle.machine.specs.Lists.{filter, nth, andThen, all, same}
 use Rattle.machine.specs.Text.{trim}
 use Rattle.machine.specs.Record.{finite}
 use Rattle.machine.specs.Edit.{up}
@@ -134,14 +134,14 @@ removeById j p self = removeIndex j (position p (self .1)) self
 -- Conformer::remove_atoms_by: self.atoms.retain(|atom| !predicate(atom)); Residue's: self.conformers_mut().for_each(..); Model's:
 --   for residue in self.residues_mut() { residue.remove_atoms_by(&predicate); }, whose residues are those of its chains, one chain after another
 unfoldable pub removeAtomsBy : (k : ℕ) → (Atom → Bool) → List (Struct k) → List (Struct k)
-removeAtomsBy zero predicate atoms = those (λ a. not (predicate a)) atoms
+removeAtomsBy zero predicate atoms = filter (λ a. not (predicate a)) atoms
 removeAtomsBy (suc k) predicate ts = map (λ (t : Struct (suc k)). (t .0, removeAtomsBy k predicate (t .1))) ts
 
 -- Residue::remove_empty: self.conformers.retain(|c| c.atom_count() > 0); Chain's: self.residues_mut().for_each(Residue::remove_empty);
 --   self.residues.retain(|r| r.conformer_count() > 0); Model's: the same of its chains
 unfoldable pub removeEmpty : (k : ℕ) → Struct (suc (suc k)) → Struct (suc (suc k))
-removeEmpty zero self = (self .0, those (λ (c : Struct 1). ltb 0 (length (c .1))) (self .1))
-removeEmpty (suc k) self = (self .0, those (λ (c : Struct (suc (suc k))). ltb 0 (length (c .1))) (map (removeEmpty k) (self .1)))
+removeEmpty zero self = (self .0, filter (λ (c : Struct 1). ltb 0 (length (c .1))) (self .1))
+removeEmpty (suc k) self = (self .0, filter (λ (c : Struct (suc (suc k))). ltb 0 (length (c .1))) (map (removeEmpty k) (self .1)))
 
 -- ---- joins
 

@@ -4,7 +4,7 @@ use Prim.Native.Nat.{ℕ, zero, suc}
 use mathlib.Core.Bool.{Bool, true, false, not}
 use mathlib.Core.List.{List, [], _∷_, map}
 use mathlib.Core.Option.{Option}
-use Rattle.machine.specs.Lists.{those, bind, along, sum}
+use Rattle.machine.specs.Lists.{filter, concatMap, concatMapFrom, sum}
 use Rattle.machine.specs.declared.Term.{Term}
 use Rattle.pdbtbx.specs.Std.{unwrapOr}
 use Rattle.pdbtbx.specs.Structs.{Says, Struct, PDB}
@@ -22,10 +22,10 @@ module _ (F : ℕ → Type 0) {T : Type 0} (matches : (k : ℕ) → F k → T �
   -- self.models().map(move |m| (m, search.clone().add_model_info(m))).filter(|(_m, search)| !matches!(search, Search::Known(false)))
   --   .flat_map(move |(m, search)| m.find(search).map(move |h| h.extend(m)))
   unfoldable pub find : (k : ℕ) → Search T → List (Item F k) → List (List ℕ)
-  find zero s items = map (λ (a : Item F zero). a .0 ∷ []) (those (λ (a : Item F zero). unwrapOr true (complete (addInfo (matches zero (a .1)) s))) items)
+  find zero s items = map (λ (a : Item F zero). a .0 ∷ []) (filter (λ (a : Item F zero). unwrapOr true (complete (addInfo (matches zero (a .1)) s))) items)
   find (suc k) s items =
-      bind (λ (p : Item F (suc k) × Search T). map (λ (h : List ℕ). p .0 .0 ∷ h) (find k (p .1) (p .0 .2)))
-      (those (λ (p : Item F (suc k) × Search T). not (isKnown false (complete (p .1))))
+      concatMap (λ (p : Item F (suc k) × Search T). map (λ (h : List ℕ). p .0 .0 ∷ h) (find k (p .1) (p .0 .2)))
+      (filter (λ (p : Item F (suc k) × Search T). not (isKnown false (complete (p .1))))
       (map (λ (m : Item F (suc k)). (m, addInfo (matches (suc k) (m .1)) s)) items))
 
 -- ---- on the crate's structure: a hit's references are told by the numbers of what they point to, in hierarchy order from 0
@@ -36,10 +36,10 @@ countOf (suc k) t = suc (sum (countOf k) (t .1))
 
 unfoldable pub item : (k : ℕ) → ℕ → Struct k → Item Says k
 item zero n a = (n, a)
-item (suc k) n t = (n, t .0, along (countOf k) (λ i u. item k i u ∷ []) (suc n) (t .1))
+item (suc k) n t = (n, t .0, concatMapFrom (countOf k) (λ i u. item k i u ∷ []) (suc n) (t .1))
 
 abbrev pub items : (k : ℕ) → ℕ → List (Struct k) → List (Item Says k)
-items k n ts = along (countOf k) (λ i t. item k i t ∷ []) n ts
+items k n ts = concatMapFrom (countOf k) (λ i t. item k i t ∷ []) n ts
 
 -- the `find` of something whose children have level k, the first of them the number n
 unfoldable pub findBelow : (k : ℕ) → Search Term → ℕ → List (Struct k) → List (List ℕ)

@@ -1,6 +1,6 @@
 -- Rust's std, as far as the crate's algorithms use it: each definition stands for the Rust beside it. A text is its list of bytes, all below 128.
 -- Five more are taken as they stand in `machine`: `trim` is `str::trim`, `before` is `<=` of `str` (both Text), `finite` is `f64::is_finite` of a float's
--- bits (Record), `sameZ` is `==` of `isize` (Query), and `those` is `filter` of an iterator and `retain` of a Vec (Lists).
+-- bits (Record), `sameZ` is `==` of `isize` (Query), and `filter` is `filter` of an iterator and `retain` of a Vec (Lists).
 -- Assumes nothing else.
 use Prim.Native.Nat.{ℕ, zero, suc, _-_}
 use mathlib.Core.Bool.{Bool, true, false}
@@ -10,7 +10,7 @@ use lib.ListN.{length}
 use lib.IntN.{negsuc}
 use lib.Ieee.{Float, nan, inf, fin, binary64, sub, lt}
 use Rattle.machine.specs.Lists.{firstWhere, same}
-use Rattle.machine.specs.Text.{raise}
+use Rattle.machine.specs.Text.{toUpper}
 
 -- ---- String and Option
 
@@ -19,7 +19,7 @@ Text = List ℕ
 
 -- s.to_uppercase(), s.to_ascii_uppercase()
 abbrev pub toUppercase : Text → Text
-toUppercase t = map raise t
+toUppercase t = map toUpper t
 
 -- == of Option<&str>
 abbrev pub sameOption : Option Text → Option Text → Bool

@@ -8,7 +8,7 @@ use native.Mathlib.Omega.{arith}
 use lib.ListN.{length, getD, take, drop, length-append, length-take, length-map}
 use lib.Dec.{leb, ltb, eqb}
 use borrow.Author.Tests.{leb-true, le-leb, ltb-true}
-use Rattle.machine.specs.Lists.{those, bind, bytes}
+use Rattle.machine.specs.Lists.{filter, concatMap, bytes}
 use Rattle.machine.specs.Answer.{Result, ok, refused, _>>=_, _>>_, need, refusalNumber, foundNumbers}
 use Rattle.machine.specs.Store.{Machine, records, goodLength, recordsOf, goodLayout, group, readStore}
 use Rattle.machine.specs.Kleene.{isHit}
@@ -21,7 +21,7 @@ use Rattle.machine.specs.declared.Refusal.{Refusal}
 use Rattle.machine.specs.declared.Refusal.the-variants.{BadLength, BrokenLayout, TreeShape, TreeNode, NoPosition, BadIdentifier, BadValue, NoCapacity, JoinWithItself, ShortOutput, BadFile}
 use Rattle.machine.specs.declared.Found.the-variants.{Refused}
 use Rattle.laws.specs.Lists.{All}
-use Rattle.laws.specs.Counting.{Rises, keyed-those}
+use Rattle.laws.specs.Counting.{Rises, keyed-filter}
 use Rattle.laws.specs.Numbers.{siteNumber, numbers-rise}
 use Rattle.laws.specs.Layout.{read-fit}
 use Rattle.search.proofs.Nodes.{node-refused}
@@ -41,9 +41,9 @@ hits-few : (t : List ℕ) (m : Machine) → length (hitsIn tables t m) ≤ lengt
 unfolding hitsIn
 hits-few t m =
     let hit : Site → Bool = λ s. isHit (valueAt tables t s) in
-    let k = keyed-those (λ (s : Site). s .numbers) atomNumber hit 0 (length (records m)) (atomsOf m) (numbers-rise m) in
-    let numbers : List ℕ = map siteNumber (those hit (atomsOf m)) in
-    simp length-map (omega (arith, rises-length 0 (length (records m)) numbers k, length-map (those hit (atomsOf m)) siteNumber))
+    let k = keyed-filter (λ (s : Site). s .numbers) atomNumber hit 0 (length (records m)) (atomsOf m) (numbers-rise m) in
+    let numbers : List ℕ = map siteNumber (filter hit (atomsOf m)) in
+    simp length-map (omega (arith, rises-length 0 (length (records m)) numbers k, length-map (filter hit (atomsOf m)) siteNumber))
 
 -- hits are those of the machine that the store holds
 pub record HitsOf (w t : List ℕ) (hs : List (List ℕ)) : Type 0 where
@@ -109,9 +109,9 @@ module _ {A B : Type 0} where
   then-other (ok a) y p q r e = q r e
   then-other (refused c) y p q r e = let d : c ≡ r = cc in p r (ap refused d)
 
-  bind-other : (x : Result A) (f : A → Result B) → Other x → ((a : A) → Other (f a)) → Other (x >>= f)
-  bind-other (ok a) f p q r e = q a r e
-  bind-other (refused c) f p q r e = let d : c ≡ r = cc in p r (ap refused d)
+  concatMap-other : (x : Result A) (f : A → Result B) → Other x → ((a : A) → Other (f a)) → Other (x >>= f)
+  concatMap-other (ok a) f p q r e = q a r e
+  concatMap-other (refused c) f p q r e = let d : c ≡ r = cc in p r (ap refused d)
 
 ok-other : {A : Type 0} (a : A) → Other (ok a)
 ok-other a r e n = let z : _≡_ {A = ℕ} 0 1 = cc in omega arith
@@ -132,7 +132,7 @@ nodes-other [] = ok-other []
 nodes-other (c ∷ []) = refused-other TreeShape (λ n. omega arith)
 nodes-other (c ∷ p ∷ []) = refused-other TreeShape (λ n. omega arith)
 nodes-other (c ∷ p ∷ q ∷ rest) =
-    bind-other (nodeOf c p q) _ (node-other c p q) (λ n. bind-other (nodesOf rest) _ (nodes-other rest) (λ ns. ok-other (n ∷ ns)))
+    concatMap-other (nodeOf c p q) _ (node-other c p q) (λ n. concatMap-other (nodesOf rest) _ (nodes-other rest) (λ ns. ok-other (n ∷ ns)))
 
 store-other : (w : List ℕ) → Other (readStore w)
 unfolding readStore
@@ -144,12 +144,12 @@ tree-other : (t : List ℕ) → Other (readTree t)
 unfolding readTree
 tree-other t =
     need-other (leb 3 (length t) && leb (length t) 381 && eqb (length t % 3) 0) TreeShape _ (λ n. omega arith)
-    (bind-other (nodesOf t) _ (nodes-other t) (λ ns. need-other (leavesOne ns) TreeShape _ (λ n. omega arith) (ok-other ns)))
+    (concatMap-other (nodesOf t) _ (nodes-other t) (λ ns. need-other (leavesOne ns) TreeShape _ (λ n. omega arith) (ok-other ns)))
 
 hits-other : (w t : List ℕ) → Other (hitsOf w t)
 unfolding hitsOf
 hits-other w t =
-    bind-other (readStore w) _ (store-other w) (λ m. then-other (readTree t) _ (tree-other t) (ok-other (hitsIn tables t m)))
+    concatMap-other (readStore w) _ (store-other w) (λ m. then-other (readTree t) _ (tree-other t) (ok-other (hitsIn tables t m)))
 
 input-other : (bs : List ℕ) → Other (readInput bs)
 unfolding readInput
@@ -201,7 +201,7 @@ refused-few r =
 pub hits-printed : (w t : List ℕ) (hs : List (List ℕ)) → hitsOf w t ≡ ok hs → (rest : List ℕ) → lines (length hs) (hitWords hs ++ rest) ++ lastLine (length hs) ≡ printed (ok hs)
 unfolding printed
 hits-printed w t hs h rest =
-    ap (λ (l : List (List ℕ)). bind line l ++ lastLine (length hs)) (fives-words hs rest (hits-are-five w t hs h)) ∙ simp append-assoc
+    ap (λ (l : List (List ℕ)). concatMap line l ++ lastLine (length hs)) (fives-words hs rest (hits-are-five w t hs h)) ∙ simp append-assoc
 
 -- no number's text starts with r
 first-digit : (k n : ℕ) (rest : List ℕ) → getD (digits (suc k) n ++ rest) 0 0 ≤ 113

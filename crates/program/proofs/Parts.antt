@@ -6,10 +6,10 @@ use native.Mathlib.Nat.{zero-mul}
 use native.Mathlib.Omega.{arith}
 use lib.ListN.{length, take, drop}
 use lib.Seq.{drop-drop}
-use Rattle.machine.specs.Lists.{bind}
+use Rattle.machine.specs.Lists.{concatMap}
 use Rattle.machine.specs.Program.{littleEndian, wordsIn}
 use Rattle.machine.specs.Demand.{fives}
-use Rattle.laws.specs.Lists.{bind-append}
+use Rattle.laws.specs.Lists.{concatMap-append}
 use Rattle.program.specs.Text.{line, lines}
 
 module _ {B : Type 0} (k : ℕ) (f : List ℕ → B) (g : ℕ → List ℕ → List B) (none : (xs : List ℕ) → g zero xs ≡ []) (more : (n : ℕ) (xs : List ℕ) → g (suc n) xs ≡ f (take k xs) ∷ g n (drop k xs)) where
@@ -32,6 +32,6 @@ wordsIn-length = parts-length 8 littleEndian wordsIn (λ xs. refl) (λ n xs. ref
 
 pub lines-snoc : (n : ℕ) (ws : List ℕ) → lines (suc n) ws ≡ lines n ws ++ line (take 5 (drop (n * 5) ws))
 lines-snoc n ws =
-    ap (bind line) (parts-snoc 5 (λ h. h) fives (λ xs. refl) (λ n xs. refl) n ws)
-    ∙ bind-append line (fives n ws) (take 5 (drop (n * 5) ws) ∷ [])
+    ap (concatMap line) (parts-snoc 5 (λ h. h) fives (λ xs. refl) (λ n xs. refl) n ws)
+    ∙ concatMap-append line (fives n ws) (take 5 (drop (n * 5) ws) ∷ [])
     ∙ ap (λ (l : List ℕ). lines n ws ++ l) (append-nil (line (take 5 (drop (n * 5) ws))))

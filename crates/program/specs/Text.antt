@@ -3,7 +3,7 @@ use Prim.Native.Nat.{ℕ, _≤_}
 use mathlib.Core.Path.{_≡_}
 use mathlib.Core.List.{List, _++_}
 use lib.ListN.{length, take}
-use Rattle.machine.specs.Lists.{bind, bytes}
+use Rattle.machine.specs.Lists.{concatMap, bytes}
 use Rattle.machine.specs.Answer.{Result, _>>=_}
 use Rattle.machine.specs.Find.{hitsOf}
 use Rattle.machine.specs.Program.{Input, decimal, newline, spaced, printed}
@@ -19,7 +19,7 @@ line h = spaced h ++ newline
 
 -- the lines of the first n hits, which stand in ws as five words each
 abbrev pub lines : ℕ → List ℕ → List ℕ
-lines n ws = bind line (fives n ws)
+lines n ws = concatMap line (fives n ws)
 
 -- the line of the count
 abbrev pub lastLine : ℕ → List ℕ

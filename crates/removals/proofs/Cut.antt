@@ -8,7 +8,7 @@ use lib.Seq.{take-at, drop-at}
 use Rattle.machine.specs.Answer.{Result, ok, editedNumbers}
 use Rattle.machine.specs.Record.{Words}
 use Rattle.machine.specs.Store.{Branch, Machine, flat, records, stored, layOut, laid, end}
-use Rattle.machine.specs.Lists.{bind}
+use Rattle.machine.specs.Lists.{concatMap}
 use Rattle.machine.specs.Edit.{Change, changed, stepBy, up, replaceAt}
 use Rattle.machine.specs.declared.Edited.the-variants.{Done}
 use Rattle.laws.specs.Lists.{sum-append}
@@ -101,7 +101,7 @@ module _ (w : List ℕ) (g : Good w) (m′ : Machine) (p q : ℕ) (c : CutOut (r
 
 -- the records of a branch that gives way to none
 pub cut-branch : (d j : ℕ) (pos : List ℕ) (ts : List (Branch (up d j))) (p q : ℕ) → Stands d j pos 0 ts p q
-    → CutOut (bind (flat (up d j)) ts) (bind (flat (up d j)) (replaceAt d j pos [] ts)) p q
+    → CutOut (concatMap (flat (up d j)) ts) (concatMap (flat (up d j)) (replaceAt d j pos [] ts)) p q
 cut-branch d j pos ts p q s =
     record {
       pre = s .spot .pre;

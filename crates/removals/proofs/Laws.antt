@@ -8,7 +8,7 @@ use native.Mathlib.Omega.{arith}
 use lib.ListN.{length, drop, set}
 use lib.Seq.{drop-drop}
 use borrow.Author.Tests.{le-leb, lt-leb, ne-eqb}
-use Rattle.machine.specs.Lists.{bind, firstWhere, splice}
+use Rattle.machine.specs.Lists.{concatMap, firstWhere, splice}
 use Rattle.machine.specs.Answer.{Result, ok, refused, editedNumbers}
 use Rattle.machine.specs.Record.{Fields, words, kind}
 use Rattle.machine.specs.Store.{Branch, Machine, flat, records, stored, end, chunks}
@@ -46,7 +46,7 @@ record ByPosition {A : Type 0} (s : Option (ℕ × ℕ)) (r : Result A) (Found :
 record Removes (k : ℕ) (ts : List (Branch k)) (r : Result (List (Branch k))) (p q : ℕ) : Type 0 where
   after : List (Branch k)
   accepted : r ≡ ok after
-  cut : CutOut (bind (flat k) ts) (bind (flat k) after) p q
+  cut : CutOut (concatMap (flat k) ts) (concatMap (flat k) after) p q
 
 removes : (d j : ℕ) (pos : List ℕ) (ts : List (Branch (up d j))) → ByPosition (spanAt d j pos 0 ts) (removeAt d j pos ts) (Removes (up d j) ts (removeAt d j pos ts))
 unfolding removeAt
@@ -88,7 +88,7 @@ module _ (w pos : List ℕ) (g : Good w) (lo : 2 ≤ length pos) (hi : length po
 record Loses (k : ℕ) (ts : List (Branch k)) (r : Result (ℕ × List (Branch k))) (at stop : ℕ) : Type 0 where
   after : List (Branch k)
   accepted : r ≡ ok (1, after)
-  cut : CutOut (bind (flat k) ts) (bind (flat k) after) at stop
+  cut : CutOut (concatMap (flat k) ts) (concatMap (flat k) after) at stop
 
 -- below the parent's record p and up to q
 record BelowParent (w : List ℕ) (h : ℕ) (id : Id) (k : ℕ) (ts : List (Branch k)) (r : Result (ℕ × List (Branch k))) (p q : ℕ) : Type 0 where
@@ -111,7 +111,7 @@ module _ (d j : ℕ) (pos : List ℕ) (flag : Result (Unit {0})) (f : Fields j �
   unfolding removeFirst
   first-some i e n = rw (there, e, n)
 
-module _ (w : List ℕ) (g : Good w) (d j : ℕ) (pos : List ℕ) (ts : List (Branch (up d (suc j)))) (whole : records (held w) ≡ bind (flat (up d (suc j))) ts)
+module _ (w : List ℕ) (g : Good w) (d j : ℕ) (pos : List ℕ) (ts : List (Branch (up d (suc j)))) (whole : records (held w) ≡ concatMap (flat (up d (suc j))) ts)
     (h : ℕ) (level : h + j ≡ 5) (one : 1 ≤ h) (id : Id) (f : Fields j → Bool) (agree : (x : Fields j) → sought h id (words j x) ≡ f x) where
   abbrev result : Result (ℕ × List (Branch (up d (suc j))))
   result = removeFirst d j pos (flagOf id) f ts
@@ -120,11 +120,11 @@ module _ (w : List ℕ) (g : Good w) (d j : ℕ) (pos : List ℕ) (ts : List (Br
     abbrev kids : List (Branch j)
     kids = s .branch .1
 
-    ends : q ≡ p + 1 + length (bind (flat j) kids)
+    ends : q ≡ p + 1 + length (concatMap (flat j) kids)
     unfolding flat
     ends = omega (arith, s .last)
 
-    kids-records : recordsIn (p + 1) q w ≡ bind (flat j) kids
+    kids-records : recordsIn (p + 1) q w ≡ concatMap (flat j) kids
     unfolding flat
     kids-records =
         let e = sym (recordsIn-cons w q p (omega (arith, ends))) ∙ stands-records w g d (suc j) pos ts p q whole s in
@@ -144,8 +144,8 @@ module _ (w : List ℕ) (g : Good w) (d j : ℕ) (pos : List ℕ) (ts : List (Br
     loses (some i) at stop e x fl a l b =
         let o = countBefore (sought h id) (recordsIn (p + 1) q w) in
         let n : p + 1 + suc o ≡ at + 1 = omega arith in
-        let c : recordsIn (at + 1) q w ≡ drop (suc o) (bind (flat j) kids) = rw (← n, ← kids-records) (sym (drop-drop (suc o) (p + 1) (chunks q w))) in
-        let z : descendants h (recordsIn (at + 1) q w) ≡ descendants h (drop (suc o) (bind (flat j) kids)) = ap (descendants h) c in
+        let c : recordsIn (at + 1) q w ≡ drop (suc o) (concatMap (flat j) kids) = rw (← n, ← kids-records) (sym (drop-drop (suc o) (p + 1) (chunks q w))) in
+        let z : descendants h (recordsIn (at + 1) q w) ≡ descendants h (drop (suc o) (concatMap (flat j) kids)) = ap (descendants h) c in
         record {
           after = _;
           accepted = first-some d j pos (flagOf id) f ts (s .branch) (s .there) i fl e;

@@ -1,5 +1,5 @@
 pub mod Nodes
 pub mod Depth
 pub mod Postfix
-pub mod Lowest
+pub mod Topmost
 pub mod Laws

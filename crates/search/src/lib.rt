@@ -16,7 +16,7 @@ ghost use Rattle.machine.specs.Query as Query;
 ghost use Rattle.machine.specs.declared.Node.the-variants.{Single};
 ghost use Rattle.terms.specs.Levels.{termValueAt, fiveNumbers, Inside};
 ghost use Rattle.search.specs.Nodes as Nodes;
-ghost use Rattle.search.specs.Nodes.{kindFor, lowestFrom, nodeFor, sortFor, goodNode, leftBy, deeperBy, depthOf, maybeDepth, checked};
+ghost use Rattle.search.specs.Nodes.{kindFor, topmostFrom, nodeFor, sortFor, goodNode, leftBy, deeperBy, depthOf, maybeDepth, checked};
 ghost use Rattle.search.specs.Value.{Operand, Evaluated};
 ghost use Rattle.search.specs.declared.MaybeDepth.the-variants as MaybeDepth;
 ghost use Rattle.search.specs.declared.CheckedTree.the-variants.{Good};
@@ -248,17 +248,17 @@ fn lesser(a: u64, b: u64) -> u64
     if a < b { a } else { b }
 }
 
-// The lowest kind that a tree asks for: where only lesser ones are known it is undecided.
-pub fn lowest_kind(tree: &[u64]) -> u64
-    ensures { λ r. ⌜ r ≡ lowestFrom 5 (now (tree .entry)) ⌝ }
+// The topmost kind that a tree asks for: where only kinds above it are known the tree is undecided.
+pub fn topmost_kind(tree: &[u64]) -> u64
+    ensures { λ r. ⌜ r ≡ topmostFrom 5 (now (tree .entry)) ⌝ }
 {
-    let mut lowest: u64 = Record::ATOM;
+    let mut topmost: u64 = Record::ATOM;
     let mut i: usize = 0;
     while i < tree.len() {
-        lowest = lesser(kind_for(tree[i]), lowest);
+        topmost = lesser(kind_for(tree[i]), topmost);
         i += 3;
     }
-    lowest
+    topmost
 }
 
 // ---- the value of a tree

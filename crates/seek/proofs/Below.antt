@@ -11,7 +11,7 @@ use lib.ListN.{length, take, drop, getD, length-drop, drop-of-length-le}
 use lib.Seq.{drop-cons, drop-drop, getD-take, getD-drop}
 use lib.Dec.{ltb, eqb}
 use borrow.Author.Tests.{le-ltb, lt-ltb, eq-eqb, ne-eqb}
-use Rattle.machine.specs.Lists.{bind, nth, andThen}
+use Rattle.machine.specs.Lists.{concatMap, nth, andThen}
 use Rattle.machine.specs.Record.{Words, words, kind}
 use Rattle.machine.specs.Store.{Branch, Machine, flat, records, chunks}
 use Rattle.machine.specs.Find.{size}
@@ -145,7 +145,7 @@ child-below w h i from end o b e = omega (arith, b .order, child-within h i (rec
 -- the records below a branch's own
 abbrev pub under : (k : ℕ) → Branch k → List Words
 under zero a = []
-under (suc k) t = bind (flat k) (t .1)
+under (suc k) t = concatMap (flat k) (t .1)
 
 pub flat-root : (k : ℕ) (t : Branch k) → flat k t ≡ words k (root k t) ∷ under k t
 unfolding flat
@@ -169,17 +169,17 @@ module _ {A : Type 0} (g k : ℕ) (level : g + k ≡ 4) (f : ℕ → List Words 
   at-end i n (r ∷ rest) e = child-low (suc g) f i n r rest (omega arith)
 
   pub child-branch : (i n : ℕ) (ts : List (Branch k)) (rest : List Words) → Ends g rest
-      → atChild (suc g) i f n (bind (flat k) ts ++ rest) ≡ andThen (nth i (numbered k n ts)) f′
+      → atChild (suc g) i f n (concatMap (flat k) ts ++ rest) ≡ andThen (nth i (numbered k n ts)) f′
   unfolding numbered
   child-branch i n [] rest e = at-end i n rest e
   child-branch zero n (t ∷ ts) rest e =
-      let more = bind (flat k) ts ++ rest in
+      let more = concatMap (flat k) ts ++ rest in
       rw (append-assoc (flat k t), flat-root k t) (child-here (suc g) f n _ _ (root-kind g k level t) ∙ agree n t more (ends-flats (suc g) k (omega arith) (omega arith) ts rest (ends-more g (suc g) (omega arith) rest e)))
   child-branch (suc i) n (t ∷ ts) rest e =
-      let more = bind (flat k) ts ++ rest in
+      let more = concatMap (flat k) ts ++ rest in
       let s : length (flat k t) ≡ suc (length (under k t)) = ap length (flat-root k t) in
       let p : suc n + length (under k t) ≡ n + length (flat k t) = omega arith in
-      let first : atChild (suc g) (suc i) f n ((flat k t ++ bind (flat k) ts) ++ rest) ≡ atChild (suc g) i f (suc n + length (under k t)) more =
+      let first : atChild (suc g) (suc i) f n ((flat k t ++ concatMap (flat k) ts) ++ rest) ≡ atChild (suc g) i f (suc n + length (under k t)) more =
       rw (append-assoc (flat k t), flat-root k t) (child-next (suc g) f i n _ _ (root-kind g k level t) ∙ child-over (suc g) f i (suc n) (under k t) more (under-kinds (suc g) k (omega arith) t)) in
       first ∙ rw p (child-branch i (n + length (flat k t)) ts rest e)
 
@@ -189,7 +189,7 @@ descendants-under g k l m t after e =
     rw (descendants-over (suc g) (under k t) after (under-kinds (suc g) k (omega arith) t) e) (omega arith)
 
 -- the i-th branch's span
-pub child-span : (g k : ℕ) → g + k ≡ 4 → (i n : ℕ) (ts : List (Branch k)) (rest : List Words) → Ends g rest → childSpan (suc g) i n (bind (flat k) ts ++ rest) ≡ spanAt 0 k (i ∷ []) n ts
+pub child-span : (g k : ℕ) → g + k ≡ 4 → (i n : ℕ) (ts : List (Branch k)) (rest : List Words) → Ends g rest → childSpan (suc g) i n (concatMap (flat k) ts ++ rest) ≡ spanAt 0 k (i ∷ []) n ts
 unfolding spanAt
 child-span g k l i n ts rest e =
     child-branch g k l (toEnd (suc g)) (λ t. some (t .0, t .0 + size k (t .1))) (λ m t after a. ap (λ (x : ℕ). some (m, x)) (descendants-under g k l m t after a)) i n ts rest e
@@ -200,7 +200,7 @@ spanIn g [] n rs = some (n - 1, n + descendants g rs)
 spanIn g (i ∷ is) n rs = atChild (suc g) i (λ m after. spanIn (suc g) is (suc m) after) n rs
 
 pub span-among : (d j g : ℕ) (pos : List ℕ) (n : ℕ) (ts : List (Branch (up d j))) (rest : List Words) → g + up d j ≡ 4 → length pos ≡ suc d → Ends g rest
-    → spanIn g pos n (bind (flat (up d j)) ts ++ rest) ≡ spanAt d j pos n ts
+    → spanIn g pos n (concatMap (flat (up d j)) ts ++ rest) ≡ spanAt d j pos n ts
 unfolding spanIn spanAt
 span-among d j g [] n ts rest level len e = absurd (omega arith)
 span-among zero j g (i ∷ (x ∷ is)) n ts rest level len e = absurd (omega arith)

@@ -10,14 +10,14 @@ use lib.ListN.{length, length-append}
 use lib.Seq.{take-at, drop-at}
 use lib.Dec.{eqb}
 use borrow.Author.Tests.{ne-eqb}
-use Rattle.machine.specs.Lists.{sum, bind, nth, andThen}
+use Rattle.machine.specs.Lists.{sum, concatMap, nth, andThen}
 use Rattle.machine.specs.Answer.{ok}
 use Rattle.machine.specs.Record.{Words, words, kind}
 use Rattle.machine.specs.Store.{Branch, Machine, flat, records, atomCount, stored, end, group, readStore}
 use Rattle.machine.specs.Find.{size}
 use Rattle.machine.specs.Lookup.{numbered}
 use Rattle.machine.specs.Edit.{up, branchAt, replaceAt}
-use Rattle.laws.specs.Lists.{and-then, sum-append, bind-append}
+use Rattle.laws.specs.Lists.{and-then, sum-append, concatMap-append}
 use Rattle.laws.specs.Grouped.{words-kind, group-flats, chunks-length}
 use Rattle.laws.specs.Layout.{records-read, read-parts}
 use Rattle.laws.specs.Places.{Around, Spot}
@@ -43,7 +43,7 @@ module _ (w : List ℕ) (m : Machine) (h : readStore w ≡ ok m) where
 -- the i-th branch, with the number of its first record
 record Numbered (k i n : ℕ) (ts : List (Branch k)) (t : Branch k) : Type 0 where
   around : Around i ts t
-  number : nth i (numbered k n ts) ≡ some (n + length (bind (flat k) (around .before)), t)
+  number : nth i (numbered k n ts) ≡ some (n + length (concatMap (flat k) (around .before)), t)
 
 nth-numbered : (k i n : ℕ) (ts : List (Branch k)) (t : Branch k) → nth i ts ≡ some t → Numbered k i n ts t
 unfolding numbered
@@ -67,7 +67,7 @@ no-numbered k (suc i) n (t ∷ ts) e = no-numbered k i (n + size k t) ts e
 
 -- how many records there are, with those of the branch at a position
 pub spot-length : (d j : ℕ) (pos : List ℕ) (ts : List (Branch (up d j))) (t : Branch j) (s : Spot d j pos ts t)
-    → length (bind (flat (up d j)) ts) ≡ length (s .pre) + (size j t + length (s .post))
+    → length (concatMap (flat (up d j)) ts) ≡ length (s .pre) + (size j t + length (s .post))
 spot-length d j pos ts t s =
     ap length (s .was) ∙ length-append (s .pre) (flat j t ++ s .post) ∙ ap (λ (z : ℕ). length (s .pre) + z) (length-append (flat j t) (s .post))
 
@@ -94,10 +94,10 @@ pub record Stood (d j : ℕ) (pos : List ℕ) (n : ℕ) (ts : List (Branch (up d
 
 -- the records around one branch's child
 flats-below : (k : ℕ) (before after : List (Branch (suc k))) (u : Branch (suc k)) (ts : List (Branch (suc k))) (pre mid post : List Words)
-    → ts ≡ before ++ (u ∷ after) → bind (flat k) (u .1) ≡ pre ++ (mid ++ post)
-    → bind (flat (suc k)) ts ≡ (bind (flat (suc k)) before ++ (words (suc k) (u .0) ∷ pre)) ++ (mid ++ (post ++ bind (flat (suc k)) after))
+    → ts ≡ before ++ (u ∷ after) → concatMap (flat k) (u .1) ≡ pre ++ (mid ++ post)
+    → concatMap (flat (suc k)) ts ≡ (concatMap (flat (suc k)) before ++ (words (suc k) (u .0) ∷ pre)) ++ (mid ++ (post ++ concatMap (flat (suc k)) after))
 unfolding flat
-flats-below k before after u ts pre mid post e f = rw (e, bind-append (flat (suc k)) before (u ∷ after), f) (simp append-assoc)
+flats-below k before after u ts pre mid post e f = rw (e, concatMap-append (flat (suc k)) before (u ∷ after), f) (simp append-assoc)
 
 -- a child's span is that of the whole position
 span-down : (d j i : ℕ) (is : List ℕ) (n : ℕ) (ts : List (Branch (suc (up d j)))) (u : ℕ × Branch (suc (up d j))) (a b c : ℕ)
@@ -113,10 +113,10 @@ span-some zero j (i ∷ is) n ts t e =
     let a = r .around in
     record {
       spot = record {
-        pre = bind (flat j) (a .before);
-        post = bind (flat j) (a .after);
-        was = ap (bind (flat j)) (a .was) ∙ bind-append (flat j) (a .before) (t ∷ a .after);
-        is = λ new. ap (bind (flat j)) (a .is (λ u. new)) ∙ simp bind-append;
+        pre = concatMap (flat j) (a .before);
+        post = concatMap (flat j) (a .after);
+        was = ap (concatMap (flat j)) (a .was) ∙ concatMap-append (flat j) (a .before) (t ∷ a .after);
+        is = λ new. ap (concatMap (flat j)) (a .is (λ u. new)) ∙ simp concatMap-append;
       };
       span = rw (r .number);
     }
@@ -126,16 +126,16 @@ span-some (suc d) j (i ∷ is) n ts t e =
     let u = s .0 in
     let r = nth-numbered k i n ts u (s .1) in
     let a = r .around in
-    let lead = bind (flat k) (a .before) in
+    let lead = concatMap (flat k) (a .before) in
     let below = span-some d j is (suc (n + length lead)) (u .1) t (s .2) in
     let b = below .spot in
     let p : suc (n + length lead) + length (b .pre) ≡ n + length (lead ++ (words k (u .0) ∷ b .pre)) = omega (arith, length-append lead (words k (u .0) ∷ b .pre)) in
     record {
       spot = record {
         pre = lead ++ (words k (u .0) ∷ b .pre);
-        post = b .post ++ bind (flat k) (a .after);
+        post = b .post ++ concatMap (flat k) (a .after);
         was = flats-below (up d j) (a .before) (a .after) u ts (b .pre) (flat j t) (b .post) (a .was) (b .was);
-        is = λ new. flats-below (up d j) (a .before) (a .after) (u .0, replaceAt d j is new (u .1)) _ (b .pre) (bind (flat j) new) (b .post) (a .is (λ v. (v .0, replaceAt d j is new (v .1)) ∷ [])) (b .is new);
+        is = λ new. flats-below (up d j) (a .before) (a .after) (u .0, replaceAt d j is new (u .1)) _ (b .pre) (concatMap (flat j) new) (b .post) (a .is (λ v. (v .0, replaceAt d j is new (v .1)) ∷ [])) (b .is new);
       };
       span = span-down d j i is n ts _ _ _ (size j t) (r .number) (below .span) p;
     }
@@ -259,20 +259,20 @@ span-inj (suc d) j (i ∷ is) (l ∷ ls) n ts a b c lp lq e f =
 
 -- ---- atoms
 
-sum-bind : {A : Type 0} (f : Words → ℕ) (g : A → List Words) (h : A → ℕ) → ((x : A) → sum f (g x) ≡ h x) → (xs : List A) → sum f (bind g xs) ≡ sum h xs
-sum-bind f g h e [] = refl
-sum-bind f g h e (x ∷ xs) = sum-append f (g x) (bind g xs) ∙ rw (e x, sum-bind f g h e xs)
+sum-concatMap : {A : Type 0} (f : Words → ℕ) (g : A → List Words) (h : A → ℕ) → ((x : A) → sum f (g x) ≡ h x) → (xs : List A) → sum f (concatMap g xs) ≡ sum h xs
+sum-concatMap f g h e [] = refl
+sum-concatMap f g h e (x ∷ xs) = sum-append f (g x) (concatMap g xs) ∙ rw (e x, sum-concatMap f g h e xs)
 
 pub atoms-branch : (k : ℕ) → k ≤ 4 → (t : Branch k) → atomRecords (flat k t) ≡ atomCount k t
 unfolding atomRecords flat atomCount
 atoms-branch zero l t = rw (words-kind zero l t)
 atoms-branch (suc k) l t =
     let e : eqb (kind (words (suc k) (t .0))) 5 ≡ false = ne-eqb (kind (words (suc k) (t .0))) 5 (λ q. omega (arith, words-kind (suc k) l (t .0))) in
-    rw (e, zero-add) (sum-bind isAtom (flat k) (atomCount k) (atoms-branch k (omega arith)) (t .1))
+    rw (e, zero-add) (sum-concatMap isAtom (flat k) (atomCount k) (atoms-branch k (omega arith)) (t .1))
 
 pub atomRecords-stored : (m : Machine) → atomRecords (records m) ≡ stored m
 unfolding atomRecords
-atomRecords-stored m = sum-bind isAtom (flat 4) (atomCount 4) (atoms-branch 4 (omega arith)) m
+atomRecords-stored m = sum-concatMap isAtom (flat 4) (atomCount 4) (atoms-branch 4 (omega arith)) m
 
 -- ---- the words of a good store
 
@@ -291,7 +291,7 @@ module _ (w : List ℕ) (g : Good w) where
   whole-atoms = rw whole-records (atomRecords-stored (held w))
 
   -- those of the branch at a position
-  module _ (d j : ℕ) (pos : List ℕ) (ts : List (Branch (up d j))) (start stop : ℕ) (whole : records (held w) ≡ bind (flat (up d j)) ts) (s : Stands d j pos 0 ts start stop) where
+  module _ (d j : ℕ) (pos : List ℕ) (ts : List (Branch (up d j))) (start stop : ℕ) (whole : records (held w) ≡ concatMap (flat (up d j)) ts) (s : Stands d j pos 0 ts start stop) where
     stop-low : stop ≤ length (records (held w))
     stop-low =
         let f = s .first in

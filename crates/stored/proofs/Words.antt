@@ -9,12 +9,12 @@ use lib.ListN.{length}
 use lib.Dec.{leb, ltb, eqb}
 use borrow.Author.Tests.{eq-eqb, ne-eqb, eqb-true, eqb-false, le-leb, lt-leb, lt-ltb, le-ltb, leb-true, leb-false}
 use Rattle.machine.specs.Lists.{all, isEmpty}
-use Rattle.machine.specs.Text.{packed, pack, unpacked, beforeZeros, withoutZeros, textOf, plain, blank, raise, trimStart, trim, fit, chainId, raised, insertionCode, conformerName, alternativeLocation, atomName, stores, storedBy, absentOr, packedText}
+use Rattle.machine.specs.Text.{packed, pack, unpacked, beforeZeros, withoutZeros, textOf, plain, blank, toUpper, trimStart, trim, fit, chainId, uppercaseOr, insertionCode, conformerName, alternativeLocation, atomName, stores, storedBy, absentOr, packedText}
 use Rattle.machine.specs.declared.Prepared.{Prepared}
 use Rattle.machine.specs.declared.Prepared.the-variants.{Stored, Absent, Bad}
 use Rattle.laws.specs.Lists.{and-both}
 use Rattle.laws.specs.Packing.{pack-textOf, length-textOf, plain-is, both-ways}
-use Rattle.laws.specs.Text.{trimStart-trim, trim-twice, all-trim, not-blank, is-plain, all-raise, trim-raise, bad-stores-none, absent-stores-none, stored-where, fit-text, stored-again}
+use Rattle.laws.specs.Text.{trimStart-trim, trim-twice, all-trim, not-blank, is-plain, all-toUpper, trim-toUpper, bad-stores-none, absent-stores-none, stored-where, fit-text, stored-again}
 use Rattle.helper.specs.Text.{upperIf}
 use Rattle.stored.specs.Word.{storedByte, storedText}
 
@@ -244,11 +244,11 @@ ends-trim t = rw reverse-reverse (begins-trimStart (reverse (trimStart t)))
 
 trim-upperIf : (up : Bool) (t : List ℕ) → trim (upperIf up t) ≡ upperIf up (trim t)
 trim-upperIf false t = refl
-trim-upperIf true t = trim-raise t
+trim-upperIf true t = trim-toUpper t
 
 all-upperIf : (up : Bool) (t : List ℕ) → all plain t ≡ true → all plain (upperIf up t) ≡ true
 all-upperIf false t h = h
-all-upperIf true t h = all-raise t ∙ h
+all-upperIf true t h = all-toUpper t ∙ h
 
 -- a text that is plain, has no blank at its end, and is raised where it has to be
 record EndTrimmed (up : Bool) (t : List ℕ) : Type 0 where
@@ -436,28 +436,28 @@ chain-stored w k e = rw e (both-ways (test false w) (storedBy chainId w)
     (λ h. stored-again chainId w (passes-chain w (test-passes false w h)))
     (λ h. passes-test false w (chain-passes w (storedBy-rule chainId w h))))
 
--- for the three rules that share `raised`
+-- for the three rules that share `uppercaseOr`
 module _ (other : Prepared) (w : ℕ) (n : (v : ℕ) → other ≡ Stored v → ⊥) where
-  raised-passes : raised (textOf w) other ≡ Stored w → Passes true w
-  unfolding raised
-  raised-passes e =
+  uppercaseOr-passes : uppercaseOr (textOf w) other ≡ Stored w → Passes true w
+  unfolding uppercaseOr
+  uppercaseOr-passes e =
       let t = textOf w in
-      let p = stored-where (all plain t && not (isEmpty (trim t))) (fit (map raise (trim t))) other w n e in
+      let p = stored-where (all plain t && not (isEmpty (trim t))) (fit (map toUpper (trim t))) other w n e in
       let q = and-both (all plain t) (not (isEmpty (trim t))) (p .0) in
       let k = fit-unchanged true w (all-trim t (q .0)) (p .1) in
       record { some = rw (unchanged-trim true t k) at (not-false (isEmpty (trim t)) (q .1)); unchanged = k }
 
-  passes-raised : Passes true w → raised (textOf w) other ≡ Stored w
-  unfolding raised
-  passes-raised k = rw (unchanged-trim true (textOf w) (k .unchanged), k .unchanged .ending .plains, k .some) (rw (unchanged-trim true (textOf w) (k .unchanged)) at (unchanged-fit true w (k .unchanged)))
+  passes-uppercaseOr : Passes true w → uppercaseOr (textOf w) other ≡ Stored w
+  unfolding uppercaseOr
+  passes-uppercaseOr k = rw (unchanged-trim true (textOf w) (k .unchanged), k .unchanged .ending .plains, k .some) (rw (unchanged-trim true (textOf w) (k .unchanged)) at (unchanged-fit true w (k .unchanged)))
 
-  raised-stored : test true w ≡ storedBy (λ t. raised t other) w
-  raised-stored = both-ways (test true w) (storedBy (λ t. raised t other) w)
-      (λ h. stored-again (λ t. raised t other) w (passes-raised (test-passes true w h)))
-      (λ h. passes-test true w (raised-passes (storedBy-rule (λ t. raised t other) w h)))
+  uppercaseOr-stored : test true w ≡ storedBy (λ t. uppercaseOr t other) w
+  uppercaseOr-stored = both-ways (test true w) (storedBy (λ t. uppercaseOr t other) w)
+      (λ h. stored-again (λ t. uppercaseOr t other) w (passes-uppercaseOr (test-passes true w h)))
+      (λ h. passes-test true w (uppercaseOr-passes (storedBy-rule (λ t. uppercaseOr t other) w h)))
 
 pub name-stored : (w : ℕ) (k : Bool) → k ≡ storedText 1 true 8 w → leb 0x2100_0000_0000_0000 w && k ≡ storedBy conformerName w
-name-stored w k e = rw e (raised-stored Bad w bad-stores-none)
+name-stored w k e = rw e (uppercaseOr-stored Bad w bad-stores-none)
 
 pub code-absent : (w : ℕ) → w ≡ 0 → true ≡ absentOr insertionCode w
 code-absent w h = rw (eq-eqb w 0 h)
@@ -466,7 +466,7 @@ pub code-stored : (w : ℕ) (r : Bool) → (w ≡ 0 → ⊥) → r ≡ storedBy 
 code-stored w r h e = rw (ne-eqb w 0 h) e
 
 pub location-stored : (w : ℕ) (r : Bool) → r ≡ absentOr insertionCode w → r ≡ absentOr alternativeLocation w
-location-stored w r e = e ∙ ap (λ (x : Bool). eqb w 0 || x) (sym (raised-stored Bad w bad-stores-none) ∙ raised-stored Absent w absent-stores-none)
+location-stored w r e = e ∙ ap (λ (x : Bool). eqb w 0 || x) (sym (uppercaseOr-stored Bad w bad-stores-none) ∙ uppercaseOr-stored Absent w absent-stores-none)
 
 -- an atom's name may be empty
 passes-atom : (w : ℕ) → Passes true w → atomName (textOf w) ≡ Stored w
@@ -489,7 +489,7 @@ atom-passes : (w : ℕ) → (w ≡ 0 → ⊥) → atomName (textOf w) ≡ Stored
 unfolding atomName
 atom-passes w n e =
     let t = textOf w in
-    let p = stored-where (all plain (trim t)) (fit (map raise (trim t))) Bad w bad-stores-none e in
+    let p = stored-where (all plain (trim t)) (fit (map toUpper (trim t))) Bad w bad-stores-none e in
     record { some = some-text w n; unchanged = fit-unchanged true w (p .0) (p .1) }
 
 pub atom-stored : (w : ℕ) (r : Bool) → r ≡ absentOr insertionCode w → r ≡ storedBy atomName w
@@ -498,5 +498,5 @@ atom-stored w r e = e ∙ go (eqb w 0) refl
     go : (a : Bool) → eqb w 0 ≡ a → (a || storedBy insertionCode w) ≡ storedBy atomName w
     go true h = rw (eqb-true w 0 h) (sym atom-zero)
     go false h = both-ways (storedBy insertionCode w) (storedBy atomName w)
-        (λ q. stored-again atomName w (passes-atom w (raised-passes Bad w bad-stores-none (storedBy-rule insertionCode w q))))
-        (λ q. stored-again insertionCode w (passes-raised Bad w bad-stores-none (atom-passes w (eqb-false w 0 h) (storedBy-rule atomName w q))))
+        (λ q. stored-again atomName w (passes-atom w (uppercaseOr-passes Bad w bad-stores-none (storedBy-rule insertionCode w q))))
+        (λ q. stored-again insertionCode w (passes-uppercaseOr Bad w bad-stores-none (atom-passes w (eqb-false w 0 h) (storedBy-rule atomName w q))))

@@ -68,7 +68,7 @@ pub fn remove_atoms_by(store: &mut [u64], model: u64, tree: &[u64]) -> Edited
     let checked = store::check(store);
     match checked {
         Checked::Refused(refusal) => Edited::Refused(refusal),
-        Checked::Good(_atoms) => selections::remove_atoms_by(store, model, tree),
+        Checked::Good(_atoms) => tree_removals::remove_atoms_by(store, model, tree),
     }
 }
 
@@ -79,7 +79,7 @@ pub fn remove_empty(store: &mut [u64], model: u64) -> Edited
     let checked = store::check(store);
     match checked {
         Checked::Refused(refusal) => Edited::Refused(refusal),
-        Checked::Good(_atoms) => prunings::remove_empty(store, model),
+        Checked::Good(_atoms) => empty_removals::remove_empty(store, model),
     }
 }
 

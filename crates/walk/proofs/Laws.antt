@@ -8,7 +8,7 @@ use lib.ListN.{length, take, drop, getD, set, length-append, length-map, length-
 use lib.Seq.{sets-eq}
 use lib.Dec.{eqb, leb}
 use borrow.Author.Tests.{eq-eqb, ne-eqb, le-leb, leb-true, leb-false, lt-leb}
-use Rattle.machine.specs.Lists.{keep, those}
+use Rattle.machine.specs.Lists.{keep, filter}
 use Rattle.machine.specs.Answer.{ok, foundNumbers}
 use Rattle.machine.specs.Store.{Machine, records, stored, readStore}
 use Rattle.machine.specs.Kleene.{isHit}
@@ -32,10 +32,10 @@ use Rattle.search.specs.Nodes.{checked}
 use Rattle.search.proofs.Laws.{tree-then, tree-refused}
 use Rattle.search.specs.declared.CheckedTree as CheckedTree
 use Rattle.terms.specs.Levels.{fiveNumbers, Inside}
-use Rattle.descent.specs.Descent.{five, start, UpTo, valueBy, Sure, Turned}
+use Rattle.descent.specs.Descent.{five, start, UpTo, valueBy, Settled, Turned}
 use Rattle.descent.specs.declared.State.{State}
 use Rattle.descent.proofs.Sites.{enteredAt, up-entered, up-next, five-is, entered-five}
-use Rattle.descent.proofs.Turns.{sure-entered}
+use Rattle.descent.proofs.Turns.{settled-entered}
 use Rattle.walk.specs.Walk.{foundIn, wrote, Levelled, Ready, Asked}
 use Rattle.walk.proofs.Whole.{whole-levels, found-whole}
 use Rattle.walk.proofs.Turns.{found-end, found-deep, found-next}
@@ -52,7 +52,7 @@ pub record Walking (w t residues atoms : List ℕ) (low end : ℕ) (hits : List 
   pub room : end * 12 ≤ length w
   pub kinds : All Levelled (recordsIn n end w)
   pub depth : d ≤ 5
-  pub sure : Sure (valueBy w t low residues atoms at) s 5
+  pub settled : Settled (valueBy w t low residues atoms at) s 5
   pub numbers : UpTo n at
   pub few : found ≤ n
   pub all : found + length (foundIn w n end t low d at residues atoms) ≡ length hits
@@ -60,7 +60,7 @@ pub record Walking (w t residues atoms : List ℕ) (low end : ℕ) (hits : List 
 pub walk-start : (w t residues atoms : List ℕ) (low from end d : ℕ) (at : RecordNumbers) → Ready w from end t d at
     → Walking w t residues atoms low end (foundIn w from end t low d at residues atoms) from d 5 at 0
 walk-start w t residues atoms low from end d at r =
-    record { order = r .within .order; room = r .within .room; kinds = r .kinds; depth = r .depth; sure = λ z. absurd (omega arith); numbers = r .numbers; few = omega arith; all = omega arith }
+    record { order = r .within .order; room = r .within .room; kinds = r .kinds; depth = r .depth; settled = λ z. absurd (omega arith); numbers = r .numbers; few = omega arith; all = omega arith }
 
 module _ (w t residues atoms : List ℕ) (low end : ℕ) (hits : List (List ℕ)) (n d s : ℕ) (at : RecordNumbers) (found : ℕ) (i : Walking w t residues atoms low end hits n d s at found) where
   abbrev k : ℕ
@@ -94,7 +94,7 @@ module _ (w t residues atoms : List ℕ) (low end : ℕ) (hits : List (List ℕ)
           room = i .room;
           kinds = split .1;
           depth = i .depth;
-          sure = i .sure;
+          settled = i .settled;
           numbers = up-next n at (i .numbers);
           few = omega (arith, i .few);
           all = omega (arith, i .all, ap length (found-deep w t residues atoms low end n d at more (i .depth) h));
@@ -109,8 +109,8 @@ module _ (w t residues atoms : List ℕ) (low end : ℕ) (hits : List (List ℕ)
           let r = i .room in
           record { model = omega (arith, up .model); chain = omega (arith, up .chain); residue = omega (arith, up .residue); conformer = omega (arith, up .conformer); atom = omega (arith, up .atom) }
 
-      pub walk-sure : Sure (valueBy w t low residues atoms to) s k
-      walk-sure = sure-entered w t low residues atoms s k n at to is least most (i .sure)
+      pub walk-settled : Settled (valueBy w t low residues atoms to) s k
+      walk-settled = settled-entered w t low residues atoms s k n at to is least most (i .settled)
 
       module _ (near : k ≤ d + 1) (r : State) (turned : Turned (valueBy w t low residues atoms to) k r) where
         pub walk-on : (b : Bool) → eqb (r .live) 5 ≡ b → foundIn w n end t low d at residues atoms ≡ keep b (five to) (foundIn w (n + 1) end t low (r .live) to residues atoms)
@@ -121,27 +121,27 @@ module _ (w t residues atoms : List ℕ) (low end : ℕ) (hits : List (List ℕ)
         high : r .live ≤ 5
         high = rw (turned .live) (depth-high k most (isHit (valueBy w t low residues atoms to k)))
 
-        pub walk-hit : r .live ≡ 5 → Walking w t residues atoms low end hits (n + 1) (r .live) (r .sure) to (found + 1)
+        pub walk-hit : r .live ≡ 5 → Walking w t residues atoms low end hits (n + 1) (r .live) (r .settled) to (found + 1)
         walk-hit e =
             record {
               order = omega arith;
               room = i .room;
               kinds = split .1;
               depth = high;
-              sure = turned .sure;
+              settled = turned .settled;
               numbers = up-next n to up;
               few = omega (arith, i .few);
               all = omega (arith, i .all, ap length (walk-on true (eq-eqb (r .live) 5 e)));
             }
 
-        pub walk-miss : (r .live ≡ 5 → ⊥) → Walking w t residues atoms low end hits (n + 1) (r .live) (r .sure) to found
+        pub walk-miss : (r .live ≡ 5 → ⊥) → Walking w t residues atoms low end hits (n + 1) (r .live) (r .settled) to found
         walk-miss e =
             record {
               order = omega arith;
               room = i .room;
               kinds = split .1;
               depth = high;
-              sure = turned .sure;
+              settled = turned .settled;
               numbers = up-next n to up;
               few = omega (arith, i .few);
               all = omega (arith, i .all, ap length (walk-on false (ne-eqb (r .live) 5 e)));
@@ -199,7 +199,7 @@ module _ (w t residues atoms : List ℕ) (low end : ℕ) (hits : List (List ℕ)
       on : (b : Bool) → eqb (r .live) 5 ≡ b → foundIn w n end t low d at residues atoms ≡ keep b (five to) (foundIn w (n + 1) end t low (r .live) to residues atoms)
       on = walk-on w t residues atoms low end hits n d s at found walk more to is near r turned
 
-      pub write-miss : (r .live ≡ 5 → ⊥) → Writing w t residues atoms low end hits out₀ (n + 1) (r .live) (r .sure) to found out
+      pub write-miss : (r .live ≡ 5 → ⊥) → Writing w t residues atoms low end hits out₀ (n + 1) (r .live) (r .settled) to found out
       write-miss e =
           record {
             walking = walk-miss w t residues atoms low end hits n d s at found walk more to is near r turned e;
@@ -211,7 +211,7 @@ module _ (w t residues atoms : List ℕ) (low end : ℕ) (hits : List (List ℕ)
         pub write-room : found * 5 + 5 ≤ length out
         write-room = omega (arith, walk .all, i .long, ap length (on true (eq-eqb (r .live) 5 e)))
 
-        pub write-hit : (out′ : List ℕ) → out′ ≡ over (found * 5) (five to) out → Writing w t residues atoms low end hits out₀ (n + 1) (r .live) (r .sure) to (found + 1) out′
+        pub write-hit : (out′ : List ℕ) → out′ ≡ over (found * 5) (five to) out → Writing w t residues atoms low end hits out₀ (n + 1) (r .live) (r .settled) to (found + 1) out′
         write-hit out′ p =
             let rest = hitWords (foundIn w (n + 1) end t low (r .live) to residues atoms) in
             let z : (found + 1) * 5 ≡ found * 5 + 5 = omega arith in
@@ -232,14 +232,14 @@ few-kept : (b : Bool) (x : Site) (xs : List Site) (n : ℕ) → length xs ≤ n 
 few-kept true x xs n h = omega arith
 few-kept false x xs n h = omega arith
 
-few-those : (p : Site → Bool) (xs : List Site) → length (those p xs) ≤ length xs
-few-those p [] = omega arith
-few-those p (x ∷ xs) = few-kept (p x) x (those p xs) (length xs) (few-those p xs)
+few-filter : (p : Site → Bool) (xs : List Site) → length (filter p xs) ≤ length xs
+few-filter p [] = omega arith
+few-filter p (x ∷ xs) = few-kept (p x) x (filter p xs) (length xs) (few-filter p xs)
 
 -- at most as many hits as atoms
 few-hits : (names : Names) (t : List ℕ) (m : Machine) → length (hitsIn names t m) ≤ stored m
 unfolding hitsIn
-few-hits names t m = simp length-map (omega (arith, few-those (λ s. isHit (treeValue (termValue names (s .place)) t)) (atomsOf m), atoms-stored m))
+few-hits names t m = simp length-map (omega (arith, few-filter (λ s. isHit (treeValue (termValue names (s .place)) t)) (atomsOf m), atoms-stored m))
 
 -- the walk over a whole store
 pub whole-ready : (w t : List ℕ) (total : ℕ) → Asked w t total → (end : ℕ) (at : RecordNumbers) → end ≡ length (records (held w)) → at ≡ start → Ready w 0 end t 0 at
@@ -270,11 +270,11 @@ module _ (w t residues atoms : List ℕ) (total : ℕ) (asked : Asked w t total)
     pub enough-counted : (c room : ℕ) → c ≡ length (foundIn w 0 end t 1 0 at residues atoms) → leb c room ≡ leb (length hits) room
     enough-counted c room e = ap (λ (x : ℕ). leb x room) (e ∙ ap length whole-hits)
 
-those-all : (P : Site → Type 0) (p : Site → Bool) (xs : List Site) → All P xs → All P (those p xs)
-those-all P p [] a = tt
-those-all P p (x ∷ xs) a = kept (p x) (those-all P p xs (a .1))
+filter-all : (P : Site → Type 0) (p : Site → Bool) (xs : List Site) → All P xs → All P (filter p xs)
+filter-all P p [] a = tt
+filter-all P p (x ∷ xs) a = kept (p x) (filter-all P p xs (a .1))
   where
-    kept : (b : Bool) → All P (those p xs) → All P (keep b x (those p xs))
+    kept : (b : Bool) → All P (filter p xs) → All P (keep b x (filter p xs))
     kept true r = (a .0, r)
     kept false r = r
 
@@ -289,7 +289,7 @@ hits-five : (names : Names) (t : List ℕ) (m : Machine) → length (hitWords (h
 unfolding hitsIn
 hits-five names t m =
     let p : Site → Bool = λ s. isHit (treeValue (termValue names (s .place)) t) in
-    let e = words-five (those p (atomsOf m)) (those-all _ p (atomsOf m) (five-numbers m)) in
+    let e = words-five (filter p (atomsOf m)) (filter-all _ p (atomsOf m) (five-numbers m)) in
     simp length-map e
 
 -- find, by the answers of its parts

@@ -8,7 +8,7 @@ use lib.ListN.{length, take, length-append, length-take}
 use lib.Seq.{take-append-le, take-all, take-take}
 use lib.Dec.{ltb, eqb}
 use borrow.Author.Tests.{le-ltb, lt-ltb, ltb-true, ltb-false}
-use Rattle.machine.specs.Lists.{keep, those}
+use Rattle.machine.specs.Lists.{keep, filter}
 use Rattle.machine.specs.Record.{Fields, Words, kind, fieldsOf}
 use Rattle.machine.specs.Store.{Machine, records, inOrder}
 use Rattle.machine.specs.Query.{Place, window}
@@ -16,7 +16,7 @@ use Rattle.machine.specs.Find.{Site, enter, below, top, atomsOf}
 use Rattle.laws.specs.Ordered.{HeadParts, head-parts}
 use Rattle.laws.specs.Scan.{above, siteOf, scan, window-enter, scan-machine}
 use Rattle.descent.proofs.Sites.{window-window, above-above}
-use Rattle.walk.specs.Sieve.{depth, sieve}
+use Rattle.walk.specs.PrunedPass.{depth, prunedPass}
 
 -- ---- places
 
@@ -59,13 +59,13 @@ module _ (n : ℕ) (s : Site) (r : Words) (low : 1 ≤ kind r) (high : kind r �
 
 -- ---- the law
 
-those-kept : (h : Site → Bool) (b : Bool) (y : Site) (ys : List Site) → h y ≡ true → those h (keep b y ys) ≡ keep b y (those h ys)
-those-kept h true y ys e = rw e
-those-kept h false y ys e = refl
+filter-kept : (h : Site → Bool) (b : Bool) (y : Site) (ys : List Site) → h y ≡ true → filter h (keep b y ys) ≡ keep b y (filter h ys)
+filter-kept h true y ys e = rw e
+filter-kept h false y ys e = refl
 
-those-left : (h : Site → Bool) (b : Bool) (y : Site) (ys : List Site) → h y ≡ false → those h (keep b y ys) ≡ those h ys
-those-left h true y ys e = rw e
-those-left h false y ys e = refl
+filter-left : (h : Site → Bool) (b : Bool) (y : Site) (ys : List Site) → h y ≡ false → filter h (keep b y ys) ≡ filter h ys
+filter-left h true y ys e = rw e
+filter-left h false y ys e = refl
 
 -- below a site at which h fails, it fails
 abbrev pub Grows : (Site → Bool) → Type 0
@@ -79,7 +79,7 @@ pub record Live (h : Site → Bool) (live s : Site) : Type 0 where
 
 module _ (h : Site → Bool) (grows : Grows h) where
   abbrev pub Finds : List Words → Type 0
-  Finds rs = (n : ℕ) (live s : Site) → Live h live s → inOrder (depth s) rs ≡ true → sieve h n live rs ≡ those h (scan n s rs)
+  Finds rs = (n : ℕ) (live s : Site) → Live h live s → inOrder (depth s) rs ≡ true → prunedPass h n live rs ≡ filter h (scan n s rs)
 
   module _ (n : ℕ) (live s : Site) (r : Words) (rs : List Words) (l : Live h live s) (p : HeadParts (depth s) r rs) (on : Finds rs) where
     y : Site
@@ -104,35 +104,35 @@ module _ (h : Site → Bool) (grows : Grows h) where
             dead = λ d. falls;
           }
 
-      passed : sieve h n live (r ∷ rs) ≡ those h (scan n s (r ∷ rs))
-      unfolding sieve scan y
+      passed : prunedPass h n live (r ∷ rs) ≡ filter h (scan n s (r ∷ rs))
+      unfolding prunedPass scan y
       passed =
           rw (lt-ltb (suc (depth live)) (kind r) deep)
-          (on (suc n) live y still order ∙ sym (those-left h (eqb (kind r) 5) y (scan (suc n) y rs) (grows (suc (suc (depth live))) (omega (arith, p .most)) y falls)))
+          (on (suc n) live y still order ∙ sym (filter-left h (eqb (kind r) 5) y (scan (suc n) y rs) (grows (suc (suc (depth live))) (omega (arith, p .most)) y falls)))
 
     -- a record right below the state, or above that
     module _ (near : kind r ≤ suc (depth live)) where
       above-same : above (kind r) live ≡ above (kind r) s
       above-same = ap (above (kind r)) (l .upper) ∙ above-above (kind r) (suc (depth live)) near s
 
-      next : sieve h n live (r ∷ rs) ≡ cond (h y) (keep (eqb (kind r) 5) y (sieve h (suc n) y rs)) (sieve h (suc n) (above (kind r) s) rs)
-      unfolding sieve y
+      next : prunedPass h n live (r ∷ rs) ≡ cond (h y) (keep (eqb (kind r) 5) y (prunedPass h (suc n) y rs)) (prunedPass h (suc n) (above (kind r) s) rs)
+      unfolding prunedPass y
       next =
           let at : Site → Site = below (5 - kind r) n (fieldsOf (5 - kind r) r) in
           rw (le-ltb (suc (depth live)) (kind r) near)
-          (ap (λ (z : Site). cond (h (at z)) (keep (eqb (kind r) 5) (at z) (sieve h (suc n) (at z) rs)) (sieve h (suc n) z rs)) above-same)
+          (ap (λ (z : Site). cond (h (at z)) (keep (eqb (kind r) 5) (at z) (prunedPass h (suc n) (at z) rs)) (prunedPass h (suc n) z rs)) above-same)
 
       deeper : kind r ≤ suc (depth s)
       deeper = omega (arith, p .step)
 
-      entered : h y ≡ true → sieve h n live (r ∷ rs) ≡ those h (scan n s (r ∷ rs))
+      entered : h y ≡ true → prunedPass h n live (r ∷ rs) ≡ filter h (scan n s (r ∷ rs))
       unfolding scan y
       entered e =
           let d = at-depth n s r (p .least) (p .most) deeper in
           let here : Live h y y = record { upper = rw d (sym (at-self n s r (p .least) (p .most) deeper)); within = omega arith; dead = λ z. absurd (omega arith) } in
-          next ∙ rw e (ap (keep (eqb (kind r) 5) y) (on (suc n) y y here order) ∙ sym (those-kept h (eqb (kind r) 5) y (scan (suc n) y rs) e))
+          next ∙ rw e (ap (keep (eqb (kind r) 5) y) (on (suc n) y y here order) ∙ sym (filter-kept h (eqb (kind r) 5) y (scan (suc n) y rs) e))
 
-      left : h y ≡ false → sieve h n live (r ∷ rs) ≡ those h (scan n s (r ∷ rs))
+      left : h y ≡ false → prunedPass h n live (r ∷ rs) ≡ filter h (scan n s (r ∷ rs))
       unfolding scan y
       left e =
           let d = at-depth n s r (p .least) (p .most) deeper in
@@ -140,20 +140,20 @@ module _ (h : Site → Bool) (grows : Grows h) where
           let up = sym (at-above n s r (p .least) (p .most) (kind r) (omega arith) deeper) in
           let no : h (above (suc (kind r)) y) ≡ false = ap h (at-self n s r (p .least) (p .most) deeper) ∙ e in
           let here : Live h (above (kind r) s) y = record { upper = rw w up; within = omega arith; dead = λ z. rw w no } in
-          next ∙ rw e (on (suc n) (above (kind r) s) y here order ∙ sym (those-left h (eqb (kind r) 5) y (scan (suc n) y rs) e))
+          next ∙ rw e (on (suc n) (above (kind r) s) y here order ∙ sym (filter-left h (eqb (kind r) 5) y (scan (suc n) y rs) e))
 
-    one : (b c : Bool) → ltb (suc (depth live)) (kind r) ≡ b → h y ≡ c → sieve h n live (r ∷ rs) ≡ those h (scan n s (r ∷ rs))
+    one : (b c : Bool) → ltb (suc (depth live)) (kind r) ≡ b → h y ≡ c → prunedPass h n live (r ∷ rs) ≡ filter h (scan n s (r ∷ rs))
     one true c i j = passed (ltb-true (suc (depth live)) (kind r) i)
     one false true i j = entered (ltb-false (suc (depth live)) (kind r) i) j
     one false false i j = left (ltb-false (suc (depth live)) (kind r) i) j
 
   -- from any state: the pruned pass finds what the whole pass finds, where h holds
-  pub sieve-those : (rs : List Words) → Finds rs
-  unfolding sieve scan y
-  sieve-those [] n live s l o = refl
-  sieve-those (r ∷ rs) n live s l o = one n live s r rs l (head-parts (depth s) r rs o) (sieve-those rs) (ltb (suc (depth live)) (kind r)) (h (siteOf n s r)) refl refl
+  pub prunedPass-filter : (rs : List Words) → Finds rs
+  unfolding prunedPass scan y
+  prunedPass-filter [] n live s l o = refl
+  prunedPass-filter (r ∷ rs) n live s l o = one n live s r rs l (head-parts (depth s) r rs o) (prunedPass-filter rs) (ltb (suc (depth live)) (kind r)) (h (siteOf n s r)) refl refl
 
-  pub sieve-machine : (m : Machine) → inOrder 0 (records m) ≡ true → sieve h 0 top (records m) ≡ those h (atomsOf m)
+  pub prunedPass-machine : (m : Machine) → inOrder 0 (records m) ≡ true → prunedPass h 0 top (records m) ≡ filter h (atomsOf m)
   unfolding window
-  sieve-machine m o =
-      sieve-those (records m) 0 top top (record { upper = refl; within = omega arith; dead = λ z. absurd (omega arith) }) o ∙ ap (those h) (scan-machine m)
+  prunedPass-machine m o =
+      prunedPass-filter (records m) 0 top top (record { upper = refl; within = omega arith; dead = λ z. absurd (omega arith) }) o ∙ ap (filter h) (scan-machine m)

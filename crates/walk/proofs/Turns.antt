@@ -21,7 +21,7 @@ use Rattle.seek.proofs.Below.{record-kind, recordsIn-cons, recordsIn-nil}
 use Rattle.terms.specs.Levels.{placeAt, termValueAt}
 use Rattle.descent.specs.Descent.{five, siteAt, depthAfter}
 use Rattle.descent.proofs.Sites.{window-from, enteredAt, site-above, site-left, site-below}
-use Rattle.walk.specs.Sieve.{depth, sieve}
+use Rattle.walk.specs.PrunedPass.{depth, prunedPass}
 use Rattle.walk.specs.Walk.{mayHit, foundIn}
 
 site-depth : (w : List ℕ) (d : ℕ) (at : RecordNumbers) → d ≤ 5 → depth (siteAt w d at) ≡ d
@@ -59,11 +59,11 @@ module _ (w t residues atoms : List ℕ) (low end n d : ℕ) (at : RecordNumbers
   rest = recordsIn (suc n) end w
 
   pub found-end : end ≤ n → foundIn w n end t low d at residues atoms ≡ []
-  unfolding foundIn sieve
+  unfolding foundIn prunedPass
   found-end h = rw (recordsIn-nil w end n h)
 
   module _ (more : n < end) (high : d ≤ 5) where
-    first : foundIn w n end t low d at residues atoms ≡ numbers (sieve hit n (siteAt w d at) (recordAt n w ∷ rest))
+    first : foundIn w n end t low d at residues atoms ≡ numbers (prunedPass hit n (siteAt w d at) (recordAt n w ∷ rest))
     unfolding foundIn
     first = rw (recordsIn-cons w end n more, add-one)
 
@@ -71,7 +71,7 @@ module _ (w t residues atoms : List ℕ) (low end n d : ℕ) (at : RecordNumbers
     is-kind = record-kind w n
 
     pub found-deep : d + 1 < k → foundIn w n end t low d at residues atoms ≡ foundIn w (n + 1) end t low d at residues atoms
-    unfolding foundIn sieve
+    unfolding foundIn prunedPass
     found-deep h = first ∙ rw (site-depth w d at high, is-kind, lt-ltb (suc d) k (omega arith), add-one)
 
     -- the record, not too deep, entered
@@ -95,10 +95,10 @@ module _ (w t residues atoms : List ℕ) (low end n d : ℕ) (at : RecordNumbers
       is-hit = rw (window-from low k (placeAt w to))
 
       abbrev looked : Bool → Site → Site → List Site
-      looked b y u = cond b (keep (eqb k 5) y (sieve hit (suc n) y rest)) (sieve hit (suc n) u rest)
+      looked b y u = cond b (keep (eqb k 5) y (prunedPass hit (suc n) y rest)) (prunedPass hit (suc n) u rest)
 
-      looks : sieve hit n (siteAt w d at) (recordAt n w ∷ rest) ≡ looked (isHit value) (siteAt w k to) (siteAt w (k - 1) to)
-      unfolding sieve
+      looks : prunedPass hit n (siteAt w d at) (recordAt n w ∷ rest) ≡ looked (isHit value) (siteAt w k to) (siteAt w (k - 1) to)
+      unfolding prunedPass
       looks =
           rw (site-depth w d at high, is-kind, le-ltb (suc d) k (omega arith))
           (ap (λ (y : Site). looked (hit y) y (above k (siteAt w d at))) here
@@ -113,8 +113,8 @@ module _ (w t residues atoms : List ℕ) (low end n d : ℕ) (at : RecordNumbers
       unfolding foundIn
       told true =
           rw add-one
-          (map-keep (λ (s : Site). s .numbers) (eqb k 5) (siteAt w k to) (sieve hit (suc n) (siteAt w k to) rest)
-          ∙ kept (numbers (sieve hit (suc n) (siteAt w k to) rest)))
+          (map-keep (λ (s : Site). s .numbers) (eqb k 5) (siteAt w k to) (prunedPass hit (suc n) (siteAt w k to) rest)
+          ∙ kept (numbers (prunedPass hit (suc n) (siteAt w k to) rest)))
       told false = rw (ne-eqb (k - 1) 5 (λ z. omega arith), add-one)
 
       pub found-next : (to′ : RecordNumbers) (d′ : ℕ) → to′ ≡ enteredAt k n at → d′ ≡ depthAfter k (treeValue (termValueAt w to′ low k residues atoms) t)

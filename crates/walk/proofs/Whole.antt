@@ -20,8 +20,8 @@ use Rattle.seek.specs.Seek.{Good, held, recordsIn}
 use Rattle.seek.proofs.Laws.{whole-records}
 use Rattle.descent.specs.Descent.{siteAt, start}
 use Rattle.descent.proofs.Sites.{window-from}
-use Rattle.walk.specs.Sieve.{sieve}
-use Rattle.walk.proofs.Pruned.{Grows, sieve-machine}
+use Rattle.walk.specs.PrunedPass.{prunedPass}
+use Rattle.walk.proofs.Pruned.{Grows, prunedPass-machine}
 use Rattle.walk.specs.Walk.{mayHit, foundIn, Levelled}
 
 no-hit : (v : Tri) → isHit v ≡ false → v ≡ False
@@ -37,9 +37,9 @@ hits-grow low names t j l s h =
     let f : treeValue (termValue names (window low (j - 1) (s .place))) t ≡ False = no-hit _ (rw e at h) in
     ap isHit (pruned low (j - 1) 5 (omega arith) names (s .place) t f)
 
-pub found-machine : (names : Names) (t : List ℕ) (m : Machine) → inOrder 0 (records m) ≡ true → map (λ s. s .numbers) (sieve (mayHit 1 names t) 0 top (records m)) ≡ hitsIn names t m
+pub found-machine : (names : Names) (t : List ℕ) (m : Machine) → inOrder 0 (records m) ≡ true → map (λ s. s .numbers) (prunedPass (mayHit 1 names t) 0 top (records m)) ≡ hitsIn names t m
 unfolding hitsIn mayHit window
-found-machine names t m o = ap (map (λ (s : Site). s .numbers)) (sieve-machine (mayHit 1 names t) (hits-grow 1 names t) m o)
+found-machine names t m o = ap (map (λ (s : Site). s .numbers)) (prunedPass-machine (mayHit 1 names t) (hits-grow 1 names t) m o)
 
 pub order-levels : (q : ℕ) (rs : List Words) → inOrder q rs ≡ true → All Levelled rs
 order-levels q [] o = tt

@@ -1,2 +1,2 @@
-pub mod Sieve
+pub mod PrunedPass
 pub mod Walk

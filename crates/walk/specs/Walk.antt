@@ -16,7 +16,7 @@ use Rattle.seek.specs.Seek.{Good, Within, recordsIn, held}
 use Rattle.search.specs.Nodes.{checked}
 use Rattle.search.specs.declared.CheckedTree as CheckedTree
 use Rattle.descent.specs.Descent.{siteAt, UpTo}
-use Rattle.walk.specs.Sieve.{sieve}
+use Rattle.walk.specs.PrunedPass.{prunedPass}
 
 -- ---- what is found
 
@@ -27,7 +27,7 @@ mayHit low names t s = isHit (treeValue (termValue names (window low 5 (s .place
 -- the hits among the records from number `from` up to `end`
 unfoldable pub foundIn : List ℕ → ℕ → ℕ → List ℕ → ℕ → ℕ → RecordNumbers → List ℕ → List ℕ → List (List ℕ)
 foundIn w from end t low d at residues atoms =
-    map (λ s. s .numbers) (sieve (mayHit low (record { residues = residues; atoms = atoms }) t) from (siteAt w d at) (recordsIn from end w))
+    map (λ s. s .numbers) (prunedPass (mayHit low (record { residues = residues; atoms = atoms }) t) from (siteAt w d at) (recordsIn from end w))
 
 -- how many they are, and the output's words with them written from the first on
 abbrev pub wrote : List (List ℕ) → List ℕ → ℕ × List ℕ

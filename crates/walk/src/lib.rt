@@ -35,10 +35,10 @@ pub fn count_in(
     requires { ⌜ Ready (now store) from end (now tree) depth first ⌝ }
     ensures { λ r. ⌜ r ≡ length (foundIn (now (store .entry)) from end (now (tree .entry)) low depth first (now (residues .entry)) (now (atoms .entry))) ⌝ }
 {
-    let lowest = search::lowest_kind(tree);
+    let topmost = search::topmost_kind(tree);
     let mut at = descent::numbers_of(first);
     let mut live = depth;
-    let mut sure: u64 = Record::ATOM;
+    let mut settled: u64 = Record::ATOM;
     let mut found: u64 = 0;
     let mut n = from;
     while n < end {
@@ -47,9 +47,19 @@ pub fn count_in(
             n += 1;
         } else {
             descent::enter(&mut at, kind, n as u64);
-            let next = descent::turn(store, tree, &at, low, kind, lowest, sure, residues, atoms);
+            let next = descent::turn(
+                store,
+                tree,
+                &at,
+                low,
+                kind,
+                topmost,
+                settled,
+                residues,
+                atoms,
+            );
             live = next.live;
-            sure = next.sure;
+            settled = next.settled;
             if live == Record::ATOM {
                 found += 1;
                 n += 1;
@@ -92,10 +102,10 @@ pub fn find_in(
     ensures { λ r. ⌜ (r, now (out .exit))
         ≡ wrote (foundIn (now (store .entry)) from end (now (tree .entry)) low depth first (now (residues .entry)) (now (atoms .entry))) (now (out .entry)) ⌝ }
 {
-    let lowest = search::lowest_kind(tree);
+    let topmost = search::topmost_kind(tree);
     let mut at = descent::numbers_of(first);
     let mut live = depth;
-    let mut sure: u64 = Record::ATOM;
+    let mut settled: u64 = Record::ATOM;
     let mut found: u64 = 0;
     let mut n = from;
     while n < end {
@@ -104,9 +114,19 @@ pub fn find_in(
             n += 1;
         } else {
             descent::enter(&mut at, kind, n as u64);
-            let next = descent::turn(store, tree, &at, low, kind, lowest, sure, residues, atoms);
+            let next = descent::turn(
+                store,
+                tree,
+                &at,
+                low,
+                kind,
+                topmost,
+                settled,
+                residues,
+                atoms,
+            );
             live = next.live;
-            sure = next.sure;
+            settled = next.settled;
             if live == Record::ATOM {
                 put(out, found, &at);
                 found += 1;

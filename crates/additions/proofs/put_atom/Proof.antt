@@ -58,8 +58,8 @@ put-records-requires c κs =
     let A = i .args in
     (atom-at _ (i .pre .0) (A .model) _ _ (i .pre .1 .1) (A .residue) (optionalOf (A .code-flag) (A .code .now)) (optionalOf (A .location-flag) (A .location .now)) (A .values) (A .names) _ (s .spot-of .ensures .0) (s .spot-of .ensures .1) _ (s .before .before .record-count .ensures), atom-room _ (i .pre .0) (A .model) _ _ (i .pre .1 .1) (A .residue) (optionalOf (A .code-flag) (A .code .now)) (optionalOf (A .location-flag) (A .location .now)) (A .values) (A .names) _ (s .spot-of .ensures .0) (s .spot-of .ensures .1) _ (s .before .before .record-count .ensures) _ (c .before .before .before .before .before .before .capacity-of .ensures) (c .before .before .before .before .if1 .left) _)
 
-moved-requires : tie.Need-moved-requires
-moved-requires c κs =
+advanced-requires : tie.Need-advanced-requires
+advanced-requires c κs =
     let s = c .before .before .before .before .before .before .before .before .before .before .before .before in
     let i = s .before .before .before .before .before .before .before in
     let A = i .args in
@@ -73,7 +73,7 @@ returns-2 c =
     let s = c .before .before .before .before .before .before .before .before .before .before .before .before .before in
     let i = s .before .before .before .before .before .before .before in
     let A = i .args in
-    (atom-moved _ (i .pre .0) (A .model) _ _ (i .pre .1 .1) (A .residue) (optionalOf (A .code-flag) (A .code .now)) (optionalOf (A .location-flag) (A .location .now)) (A .values) (A .names) _ (s .spot-of .ensures .0) (s .spot-of .ensures .1) _ (s .before .before .record-count .ensures) _ (c .before .before .before .before .before .before .before .before .before .before .capacity-of .ensures) (c .before .before .before .before .before .before .before .before .if1 .left) _ _ (c .before .before .before .before .before .before .before .column-of .ensures) (c .before .before .before .put-records .ensures) (A .place) _ (i .pre .1 .0) (c .moved .ensures), atom-done _ (i .pre .0) (A .model) _ _ (i .pre .1 .1) (A .residue) (optionalOf (A .code-flag) (A .code .now)) (optionalOf (A .location-flag) (A .location .now)) (A .values) (A .names) _ (s .spot-of .ensures .0) (s .spot-of .ensures .1) _ (s .before .before .record-count .ensures) _ (c .before .before .before .before .before .before .before .before .before .before .capacity-of .ensures) (c .before .before .before .before .before .before .before .before .if1 .left) _ _ (c .before .before .before .before .before .before .before .column-of .ensures) (c .before .before .before .put-records .ensures))
+    (atom-moved _ (i .pre .0) (A .model) _ _ (i .pre .1 .1) (A .residue) (optionalOf (A .code-flag) (A .code .now)) (optionalOf (A .location-flag) (A .location .now)) (A .values) (A .names) _ (s .spot-of .ensures .0) (s .spot-of .ensures .1) _ (s .before .before .record-count .ensures) _ (c .before .before .before .before .before .before .before .before .before .before .capacity-of .ensures) (c .before .before .before .before .before .before .before .before .if1 .left) _ _ (c .before .before .before .before .before .before .before .column-of .ensures) (c .before .before .before .put-records .ensures) (A .cursor) _ (i .pre .1 .0) (c .advanced .ensures), atom-done _ (i .pre .0) (A .model) _ _ (i .pre .1 .1) (A .residue) (optionalOf (A .code-flag) (A .code .now)) (optionalOf (A .location-flag) (A .location .now)) (A .values) (A .names) _ (s .spot-of .ensures .0) (s .spot-of .ensures .1) _ (s .before .before .record-count .ensures) _ (c .before .before .before .before .before .before .before .before .before .before .capacity-of .ensures) (c .before .before .before .before .before .before .before .before .if1 .left) _ _ (c .before .before .before .before .before .before .before .column-of .ensures) (c .before .before .before .put-records .ensures))
 
 pub put-atom-spec : {M : Type 1} → statement M
 put-atom-spec =
@@ -93,6 +93,6 @@ put-atom-spec =
     part-put-records-start
     part-put-records-end
     put-records-requires
-    moved-requires
+    advanced-requires
     same-length-2
     returns-2)

@@ -1,7 +1,7 @@
 -- `descent::turn` meets its contract: a tree that is true above a record is true there, one that asks for no kind that is known is undecided, and else its value says what is below. Assumes nothing.
 use borrow.Author.Needs.{needs}
 use Rattle.terms.specs.Levels.{fiveNumbers}
-use Rattle.descent.proofs.Turns.{turn-sure, turn-quiet, turn-false, turn-true, turn-undecided}
+use Rattle.descent.proofs.Turns.{turn-settled, turn-quiet, turn-false, turn-true, turn-undecided}
 use Rattle.descent.proofs.turn.Statement.{statement}
 use Rattle.descent.proofs.turn.Tie as tie
 
@@ -12,7 +12,7 @@ returns : tie.Need-returns
 returns c =
     let s = c .before .before .before .before .before .before in
     let a = s .args in
-    rw (c .new .ensures) (turn-sure (a .store .now) (a .tree .now) (a .low) (a .residues .now) (a .atoms .now) (fiveNumbers (a .at .now)) (a .kind) (a .sure) (s .pre .3) (c .before .if1 .taken))
+    rw (c .new .ensures) (turn-settled (a .store .now) (a .tree .now) (a .low) (a .residues .now) (a .atoms .now) (fiveNumbers (a .at .now)) (a .kind) (a .settled) (s .pre .3) (c .before .if1 .taken))
 
 new-requires-2 : tie.Need-new-requires-2
 new-requires-2 c κs = search needs
@@ -21,7 +21,7 @@ returns-2 : tie.Need-returns-2
 returns-2 c =
     let s = c .before .before .before .before .before .before .before in
     let a = s .args in
-    rw (c .new2 .ensures) (turn-quiet (a .store .now) (a .tree .now) (a .low) (a .residues .now) (a .atoms .now) (fiveNumbers (a .at .now)) (a .kind) (a .lowest) (s .pre .0) (s .pre .4) (c .before .if2 .taken))
+    rw (c .new2 .ensures) (turn-quiet (a .store .now) (a .tree .now) (a .low) (a .residues .now) (a .atoms .now) (fiveNumbers (a .at .now)) (a .kind) (a .topmost) (s .pre .0) (s .pre .4) (c .before .if2 .taken))
 
 sub-above : tie.Need-sub-above
 sub-above c = search needs

@@ -4,21 +4,21 @@ use Prim.Native.Nat.{_-_}
 use mathlib.Core.Path.{_≡_}
 use native.Mathlib.Omega.{arith}
 use lib.ListN.{length}
-use Rattle.places.specs.Place.{Known}
-use Rattle.places.proofs.Kept.{nowhere-known}
+use Rattle.insertion.specs.Cursor.{Valid}
+use Rattle.insertion.proofs.PointsInto.{nowhere-known}
 use borrow.Author.Needs.{needs}
 use Rattle.edits.proofs.Lists.{Going, going-start, next-of, next-reads, next-short, answer-room, going-turn, going-end}
 use Rattle.edits.proofs.apply_all.Statement.{statement}
 use Rattle.edits.proofs.apply_all.Tie as tie
 
 abbrev Inv-loop : tie.InvT-loop
-Inv-loop store₀ list out₀ bytes₀ place₀ at₀ written₀ store out bytes place at written = Going store₀ out₀ list store out at written × (length store ≡ length store₀) × (length bytes ≡ 1024) × Known place store
+Inv-loop store₀ list out₀ bytes₀ place₀ at₀ written₀ store out bytes cursor at written = Going store₀ out₀ list store out at written × (length store ≡ length store₀) × (length bytes ≡ 1024) × Valid cursor store
 
 abbrev μ-loop : tie.MeasureT-loop
-μ-loop store₀ list out₀ bytes₀ place₀ at₀ written₀ store out bytes place at written = length list - at
+μ-loop store₀ list out₀ bytes₀ place₀ at₀ written₀ store out bytes cursor at written = length list - at
 
-nowhere-requires : tie.Need-nowhere-requires Inv-loop μ-loop
-nowhere-requires c κs = search needs
+no-cursor-requires : tie.Need-no-cursor-requires Inv-loop μ-loop
+no-cursor-requires c κs = search needs
 
 loop-holds : tie.Need-loop-holds Inv-loop μ-loop
 loop-holds c = search (needs, going-start, nowhere-known)
@@ -100,7 +100,7 @@ apply-all-spec =
     (tie.spec
     Inv-loop
     μ-loop
-    nowhere-requires
+    no-cursor-requires
     loop-holds
     add-start
     add-end

@@ -1,5 +1,5 @@
 -- `edits::apply_call` meets its contract: an addition keeps a place, and nothing is known after another call. Assumes nothing.
-use Rattle.places.proofs.Kept.{nowhere-known}
+use Rattle.insertion.proofs.PointsInto.{nowhere-known}
 use Rattle.dispatch.proofs.Calls.{at-code, of-code}
 use borrow.Author.Needs.{needs}
 use Rattle.edits.proofs.apply_call.Statement.{statement}
@@ -23,8 +23,8 @@ returns c = search (needs, of-code)
 run-call-requires : tie.Need-run-call-requires
 run-call-requires c κs = search needs
 
-nowhere-requires : tie.Need-nowhere-requires
-nowhere-requires c κs = search needs
+no-cursor-requires : tie.Need-no-cursor-requires
+no-cursor-requires c κs = search needs
 
 same-length-3 : tie.Need-same-length-3
 same-length-3 c = search needs
@@ -45,7 +45,7 @@ apply-call-spec =
     same-length-2
     returns
     run-call-requires
-    nowhere-requires
+    no-cursor-requires
     same-length-3
     same-length-4
     returns-2)

@@ -1,5 +1,5 @@
--- `helper::prepare_uppercase_or` is `raised`. Assumes nothing.
-use Rattle.helper.proofs.Laws.{raised-good, raised-other}
+-- `helper::prepare_uppercase_or` is `uppercaseOr`. Assumes nothing.
+use Rattle.helper.proofs.Laws.{uppercaseOr-good, uppercaseOr-other}
 use borrow.Author.Needs.{needs}
 use Rattle.helper.proofs.prepare_uppercase_or.Statement.{statement}
 use Rattle.helper.proofs.prepare_uppercase_or.Tie as tie
@@ -14,10 +14,10 @@ packed-or-bad-requires : tie.Need-packed-or-bad-requires
 packed-or-bad-requires c κs = search needs
 
 returns : tie.Need-returns
-returns c = search (needs, raised-good)
+returns c = search (needs, uppercaseOr-good)
 
 returns-2 : tie.Need-returns-2
-returns-2 c = search (needs, raised-other)
+returns-2 c = search (needs, uppercaseOr-other)
 
 pub prepare-uppercase-or-spec : {M : Type 1} → statement M
 prepare-uppercase-or-spec =

@@ -1,5 +1,5 @@
 -- `search::kind_for` is `kindFor`: a table, and 0 past its end. Assumes nothing.
-use Rattle.search.proofs.Lowest.{no-kind}
+use Rattle.search.proofs.Topmost.{no-kind}
 use borrow.Author.Needs.{needs}
 use Rattle.search.proofs.kind_for.Statement.{statement}
 use Rattle.search.proofs.kind_for.Tie as tie

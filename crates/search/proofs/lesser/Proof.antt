@@ -1,5 +1,5 @@
 -- `search::lesser` is the lesser of two numbers. Assumes nothing.
-use Rattle.search.proofs.Lowest.{lesser-first, lesser-other}
+use Rattle.search.proofs.Topmost.{lesser-first, lesser-other}
 use borrow.Author.Needs.{needs}
 use Rattle.search.proofs.lesser.Statement.{statement}
 use Rattle.search.proofs.lesser.Tie as tie

@@ -6,19 +6,19 @@ use mathlib.Core.Path.{_≡_, refl}
 use lib.ListN.{length}
 use Rattle.terms.specs.Levels.{fiveNumbers}
 use Rattle.walk.specs.Walk.{foundIn}
-use Rattle.walk.proofs.Laws.{Walking, walk-start, walk-end, least, most, walk-entered, walk-five, walk-deep, walk-inside, walk-sure, walk-hit, walk-miss}
+use Rattle.walk.proofs.Laws.{Walking, walk-start, walk-end, least, most, walk-entered, walk-five, walk-deep, walk-inside, walk-settled, walk-hit, walk-miss}
 use Rattle.walk.proofs.count_in.Statement.{statement}
 use Rattle.walk.proofs.count_in.Tie as tie
 
 abbrev Inv-loop : tie.InvT-loop
-Inv-loop store from end tree low depth residues atoms lowest at₀ live₀ sure₀ found₀ n₀ at live sure found n =
-    Walking store tree residues atoms low end (foundIn store from end tree low depth (fiveNumbers at₀) residues atoms) n live sure (fiveNumbers at) found × (length at ≡ 5)
+Inv-loop store from end tree low depth residues atoms topmost at₀ live₀ sure₀ found₀ n₀ at live settled found n =
+    Walking store tree residues atoms low end (foundIn store from end tree low depth (fiveNumbers at₀) residues atoms) n live settled (fiveNumbers at) found × (length at ≡ 5)
 
 abbrev μ-loop : tie.MeasureT-loop
-μ-loop store from end tree low depth residues atoms lowest at₀ live₀ sure₀ found₀ n₀ at live sure found n = end - n
+μ-loop store from end tree low depth residues atoms topmost at₀ live₀ sure₀ found₀ n₀ at live settled found n = end - n
 
-lowest-kind-requires : tie.Need-lowest-kind-requires Inv-loop μ-loop
-lowest-kind-requires c κs = search needs
+topmost-kind-requires : tie.Need-topmost-kind-requires Inv-loop μ-loop
+topmost-kind-requires c κs = search needs
 
 numbers-of-requires : tie.Need-numbers-of-requires Inv-loop μ-loop
 numbers-of-requires c κs = search needs
@@ -62,8 +62,8 @@ turn-requires c κs =
       l .before .before .before .before .before .before .before .before .pre .tree,
       walk-inside _ _ _ _ _ _ _ _ _ _ _ _ i more _ is,
       least _ _ _ _ _ _ _ _ _ _ _ _ i more,
-      walk-sure _ _ _ _ _ _ _ _ _ _ _ _ i more _ is,
-      l .before .before .before .lowest-kind .ensures,
+      walk-settled _ _ _ _ _ _ _ _ _ _ _ _ i more _ is,
+      l .before .before .before .topmost-kind .ensures,
     )
 
 add-found : tie.Need-add-found Inv-loop μ-loop
@@ -108,7 +108,7 @@ count-in-spec =
     (tie.spec
     Inv-loop
     μ-loop
-    lowest-kind-requires
+    topmost-kind-requires
     numbers-of-requires
     loop-holds
     mul-kind

@@ -6,19 +6,19 @@ use mathlib.Core.Path.{_≡_, refl}
 use lib.ListN.{length}
 use Rattle.terms.specs.Levels.{fiveNumbers}
 use Rattle.walk.specs.Walk.{foundIn}
-use Rattle.walk.proofs.Laws.{least, most, walk-entered, walk-five, walk-inside, walk-sure, Writing, write-start, write-end, write-deep, write-miss, write-room, write-hit}
+use Rattle.walk.proofs.Laws.{least, most, walk-entered, walk-five, walk-inside, walk-settled, Writing, write-start, write-end, write-deep, write-miss, write-room, write-hit}
 use Rattle.walk.proofs.find_in.Statement.{statement}
 use Rattle.walk.proofs.find_in.Tie as tie
 
 abbrev Inv-loop : tie.InvT-loop
-Inv-loop store from end tree low depth residues atoms out₀ lowest at₀ live₀ sure₀ found₀ n₀ out at live sure found n =
-    Writing store tree residues atoms low end (foundIn store from end tree low depth (fiveNumbers at₀) residues atoms) out₀ n live sure (fiveNumbers at) found out × (length at ≡ 5)
+Inv-loop store from end tree low depth residues atoms out₀ topmost at₀ live₀ sure₀ found₀ n₀ out at live settled found n =
+    Writing store tree residues atoms low end (foundIn store from end tree low depth (fiveNumbers at₀) residues atoms) out₀ n live settled (fiveNumbers at) found out × (length at ≡ 5)
 
 abbrev μ-loop : tie.MeasureT-loop
-μ-loop store from end tree low depth residues atoms out₀ lowest at₀ live₀ sure₀ found₀ n₀ out at live sure found n = end - n
+μ-loop store from end tree low depth residues atoms out₀ topmost at₀ live₀ sure₀ found₀ n₀ out at live settled found n = end - n
 
-lowest-kind-requires : tie.Need-lowest-kind-requires Inv-loop μ-loop
-lowest-kind-requires c κs = search needs
+topmost-kind-requires : tie.Need-topmost-kind-requires Inv-loop μ-loop
+topmost-kind-requires c κs = search needs
 
 numbers-of-requires : tie.Need-numbers-of-requires Inv-loop μ-loop
 numbers-of-requires c κs = search needs
@@ -62,8 +62,8 @@ turn-requires c κs =
       l .before .before .before .before .before .before .before .before .before .pre .0 .tree,
       walk-inside _ _ _ _ _ _ _ _ _ _ _ _ i more _ is,
       least _ _ _ _ _ _ _ _ _ _ _ _ i more,
-      walk-sure _ _ _ _ _ _ _ _ _ _ _ _ i more _ is,
-      l .before .before .before .lowest-kind .ensures,
+      walk-settled _ _ _ _ _ _ _ _ _ _ _ _ i more _ is,
+      l .before .before .before .topmost-kind .ensures,
     )
 
 put-requires : tie.Need-put-requires Inv-loop μ-loop
@@ -122,7 +122,7 @@ find-in-spec =
     (tie.spec
     Inv-loop
     μ-loop
-    lowest-kind-requires
+    topmost-kind-requires
     numbers-of-requires
     loop-holds
     mul-kind

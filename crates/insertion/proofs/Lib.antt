@@ -1,0 +1,4 @@
+pub mod Picks
+pub mod Spans
+pub mod PointsInto
+pub mod Laws

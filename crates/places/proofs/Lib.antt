@@ -1,4 +1,0 @@
-pub mod Picks
-pub mod Spans
-pub mod Kept
-pub mod Laws
