@@ -14,7 +14,7 @@ use Rattle.machine.specs.Answer.{Result, ok, refused, editedNumbers}
 use Rattle.machine.specs.Text.{Optional, chainId, insertionCode, conformerName, alternativeLocation, atomName, optional}
 use Rattle.machine.specs.Record.{Words, words, finite, goodValues}
 use Rattle.machine.specs.Store.{Branch, Machine, flat, records, stored, capacity, laid, layOut, recordsOf}
-use Rattle.machine.specs.Edit.{Addition, addition, atomOf, accept, prepare, intoChains, replaceAt, fits, addModel, addAtom, Change, stepBy}
+use Rattle.machine.specs.Edit.{Addition, addition, namedAtom, accept, prepare, intoChains, replaceAt, fits, addModel, addAtom, Change, stepBy}
 use Rattle.machine.specs.declared.NewAtom.{NewAtom}
 use Rattle.machine.specs.declared.Prepared.{Prepared}
 use Rattle.machine.specs.declared.Prepared.the-variants.{Stored, Absent, Bad}
@@ -205,7 +205,7 @@ all-good true true true true true f g = refl
 pub values-good : (v : NewAtom) (a b c d e f : Bool)
     → a ≡ finite (v .x) → b ≡ finite (v .y) → c ≡ finite (v .z) → d ≡ finite (v .occupancy) → e ≡ finite (v .«b_factor»)
     → f ≡ leb (v .element) 118
-    → (((a && b) && c) && (d && e)) && f && leb (v .hetero) 1 ≡ goodValues (atomOf v 0)
+    → (((a && b) && c) && (d && e)) && f && leb (v .hetero) 1 ≡ goodValues (namedAtom v 0)
 unfolding goodValues
 values-good v a b c d e f x y z o t l = all-good a b c d e f (leb (v .hetero) 1) ∙ rw (x, y, z, o, t, l)
 
@@ -247,7 +247,7 @@ module _ (w : List ℕ) (g : Good w) (serial x count : ℕ) (e : x ≡ capacity 
 
 -- the new records, all four
 abbrev newColumn : StoredNames.StoredNames → ℕ → NewAtom → List Words
-newColumn n residue v = column (preparedOf n) residue (atomOf v (n .name))
+newColumn n residue v = column (preparedOf n) residue (namedAtom v (n .name))
 
 -- the words of the column's records from one on
 column-part : (n : StoredNames.StoredNames) (residue : ℕ) (v : NewAtom) (x : ℕ) → x ≤ 4
@@ -261,7 +261,7 @@ column-part n residue v x l =
     rw d (take-all (48 - 12 * x) (concat (drop x col)) (omega arith))
 
 -- refusal 7 does not look at the name
-values-only : (v : NewAtom) (name : ℕ) → goodValues (atomOf v name) ≡ goodValues (atomOf v 0)
+values-only : (v : NewAtom) (name : ℕ) → goodValues (namedAtom v name) ≡ goodValues (namedAtom v 0)
 unfolding goodValues
 values-only v name = refl
 
@@ -338,7 +338,7 @@ module _ (w : List ℕ) (g : Good w) (i start stop : ℕ) (e : span (i ∷ []) (
 
           pub atom-moved : (p q : Cursor.Cursor) → Valid p w → Advances p i start stop (n .chain) residue s q → Valid q s′
           atom-moved p q known moves =
-              moves w s′ (preparedOf n) (atomOf v (n .name)) refl g known (model-span w g i ∙ e) lands (put-grown w g after _ _ ins x (count + 4 - s .depth) s′ d new-length l new-words)
+              moves w s′ (preparedOf n) (namedAtom v (n .name)) refl g known (model-span w g i ∙ e) lands (put-grown w g after _ _ ins x (count + 4 - s .depth) s′ d new-length l new-words)
 
 -- in the model at an index
 module _ (w : List ℕ) (g : Good w) (i : ℕ) (chain : List ℕ) (residue : ℕ) (code : Optional) (conformer : List ℕ) (location : Optional) (name : List ℕ) (v : NewAtom)
@@ -367,7 +367,7 @@ module _ (w : List ℕ) (g : Good w) (i : ℕ) (chain : List ℕ) (residue : ℕ
       unfolding stepBy addAtom
       atom-unnamed z = rw (g, stood w g i start stop model-spans .there, ← prepared, z)
 
-      module _ (n : StoredNames.StoredNames) (z : o ≡ Readied.the-variants.Ready n) (b : Bool) (f : b ≡ goodValues (atomOf v 0)) where
+      module _ (n : StoredNames.StoredNames) (z : o ≡ Readied.the-variants.Ready n) (b : Bool) (f : b ≡ goodValues (namedAtom v 0)) where
         pub atom-bad : b ≡ false → (editedNumbers (Edited.the-variants.Refused BadValue), w) ≡ answer
         unfolding stepBy addAtom
         atom-bad t = rw (g, stood w g i start stop model-spans .there, ← prepared, z, values-only v (n .name), ← f, t)

@@ -9,7 +9,7 @@ ghost use Rattle.machine.specs.Record.{goodValues};
 ghost use Rattle.machine.specs.Store.{capacity};
 ghost use mathlib.Core.List.{[], _∷_};
 ghost use mathlib.Core.Option.{some};
-ghost use Rattle.machine.specs.Edit.{addition, atomOf, prepare, addModel, addAtom, stepBy};
+ghost use Rattle.machine.specs.Edit.{addition, namedAtom, prepare, addModel, addAtom, stepBy};
 ghost use Rattle.seek.specs.Seek.{Good, held, span};
 ghost use Rattle.insertion.specs.Cursor.{Valid};
 ghost use Rattle.additions.specs.Add.{named, wordOf, preparedOf, resultOf, columnWords, put, intoModel};
@@ -64,7 +64,8 @@ fn ready(
     location: &[u8],
     name: &[u8],
 ) -> Readied
-    ensures { λ r. ⌜ resultOf r ≡ prepare (named (now (chain .entry)) (optionalOf «code_flag» (now (code .entry))) (now (conformer .entry)) (optionalOf «location_flag» (now (location .entry))) (now (name .entry))) ⌝ }
+    ensures { λ r. ⌜ resultOf r
+        ≡ prepare (named (now (chain .entry)) (optionalOf «code_flag» (now (code .entry))) (now (conformer .entry)) (optionalOf «location_flag» (now (location .entry))) (now (name .entry))) ⌝ }
 {
     let Word::Is(chain_word) = word_of(helper::prepare_chain_id(chain)) else {
         return Readied::Bad;
@@ -95,7 +96,7 @@ fn ready(
 
 // "7": the floats are finite, the element is at most 118, hetero at most 1.
 fn good_values(values: NewAtom) -> bool
-    ensures { λ r. ⌜ r ≡ goodValues (atomOf values 0) ⌝ }
+    ensures { λ r. ⌜ r ≡ goodValues (namedAtom values 0) ⌝ }
 {
     let position = floats::is_finite(values.x)
         & floats::is_finite(values.y)
@@ -203,7 +204,9 @@ fn put_atom(
     requires { ⌜ Valid cursor (now store) ⌝ }
     requires { ⌜ span (model ∷ []) (held (now store)) ≡ some (start, end) ⌝ }
     ensures { λ r. ⌜ Valid (r .cursor) (now (store .exit)) ⌝ }
-    ensures { λ r. ⌜ (editedNumbers (r .edited), now (store .exit)) ≡ stepBy (now (store .entry)) (intoModel (length (now (store .entry))) model (addition [] residue (optionalOf «code_flag» (now (code .entry))) [] (optionalOf «location_flag» (now (location .entry))) [] values) (preparedOf names)) ⌝ }
+    ensures { λ r. ⌜ (editedNumbers (r .edited), now (store .exit))
+        ≡ stepBy (now (store .entry)) (intoModel (length (now (store .entry))) model
+        (addition [] residue (optionalOf «code_flag» (now (code .entry))) [] (optionalOf «location_flag» (now (location .entry))) [] values) (preparedOf names)) ⌝ }
 {
     let count = seek::record_count(store);
     let spot = insertion::spot_of(
@@ -254,7 +257,9 @@ pub fn add_atom_at(
     requires { ⌜ Good (now store) ⌝ }
     requires { ⌜ Valid cursor (now store) ⌝ }
     ensures { λ r. ⌜ Valid (r .cursor) (now (store .exit)) ⌝ }
-    ensures { λ r. ⌜ (editedNumbers (r .edited), now (store .exit)) ≡ stepBy (now (store .entry)) (addAtom (length (now (store .entry))) model (addition (now (chain .entry)) residue (optionalOf «code_flag» (now (code .entry))) (now (conformer .entry)) (optionalOf «location_flag» (now (location .entry))) (now (name .entry)) values)) ⌝ }
+    ensures { λ r. ⌜ (editedNumbers (r .edited), now (store .exit))
+        ≡ stepBy (now (store .entry)) (addAtom (length (now (store .entry))) model (addition (now (chain .entry)) residue
+        (optionalOf «code_flag» (now (code .entry))) (now (conformer .entry)) (optionalOf «location_flag» (now (location .entry))) (now (name .entry)) values)) ⌝ }
 {
     let Span::At(start, end) = insertion::model_span(store, cursor, model) else {
         return Added {
@@ -313,7 +318,9 @@ pub fn add_atom(
     values: NewAtom,
 ) -> Edited
     requires { ⌜ Good (now store) ⌝ }
-    ensures { λ r. ⌜ (editedNumbers r, now (store .exit)) ≡ stepBy (now (store .entry)) (addAtom (length (now (store .entry))) model (addition (now (chain .entry)) residue (optionalOf «code_flag» (now (code .entry))) (now (conformer .entry)) (optionalOf «location_flag» (now (location .entry))) (now (name .entry)) values)) ⌝ }
+    ensures { λ r. ⌜ (editedNumbers r, now (store .exit))
+        ≡ stepBy (now (store .entry)) (addAtom (length (now (store .entry))) model (addition (now (chain .entry)) residue
+        (optionalOf «code_flag» (now (code .entry))) (now (conformer .entry)) (optionalOf «location_flag» (now (location .entry))) (now (name .entry)) values)) ⌝ }
 {
     let added = add_atom_at(
         store,

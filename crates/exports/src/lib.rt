@@ -84,7 +84,9 @@ pub extern "C" fn jubrelti_add_atom(
     name: &[u8],
     values: NewAtom,
 ) -> EditAnswer
-    ensures { λ r. ⌜ (editFields r, now (store .exit)) ≡ storeStep (now (store .entry)) (Calls.AddAtom model (addition (now (chain .entry)) residue (optionalOf «code_flag» (now (code .entry))) (now (conformer .entry)) (optionalOf «location_flag» (now (location .entry))) (now (name .entry)) values)) ⌝ }
+    ensures { λ r. ⌜ (editFields r, now (store .exit))
+        ≡ storeStep (now (store .entry)) (Calls.AddAtom model (addition (now (chain .entry)) residue
+        (optionalOf «code_flag» (now (code .entry))) (now (conformer .entry)) (optionalOf «location_flag» (now (location .entry))) (now (name .entry)) values)) ⌝ }
 {
     let edited = structs::model::add_atom(
         store,

@@ -174,19 +174,19 @@ nodes-append (c ∷ p ∷ q ∷ A) B ns h = go (nodeOf c p q) (nodesOf A) refl h
         after (refused x) = refl
 
 -- what an accepted tree's words give
-pub record Accepted (t : List ℕ) (ns : List Node) : Type 0 where
+pub record AcceptedTree (t : List ℕ) (ns : List Node) : Type 0 where
   pub nodes : nodesOf t ≡ ok ns
   pub one : leavesOne ns ≡ true
 
-pub accepted : (t : List ℕ) (ns : List Node) → readTree t ≡ ok ns → Accepted t ns
+pub accepted : (t : List ℕ) (ns : List Node) → readTree t ≡ ok ns → AcceptedTree t ns
 unfolding readTree
 accepted t ns h = go (leb 3 (length t) && leb (length t) 381 && eqb (length t % 3) 0) (nodesOf t) refl h
   where
-    last : (b : Bool) (ms : List Node) → leavesOne ms ≡ b → nodesOf t ≡ ok ms → (need b TreeShape >> ok ms) ≡ ok ns → Accepted t ns
+    last : (b : Bool) (ms : List Node) → leavesOne ms ≡ b → nodesOf t ≡ ok ms → (need b TreeShape >> ok ms) ≡ ok ns → AcceptedTree t ns
     last true ms e o k = let i : ms ≡ ns = cc in record { nodes = rw i at o; one = rw i at e }
     last false ms e o k = let z : _≡_ {A = ℕ} 0 1 = cc in absurd (omega arith)
 
-    go : (b : Bool) (r : Result (List Node)) → nodesOf t ≡ r → (need b TreeShape >> (r >>= λ ms. need (leavesOne ms) TreeShape >> ok ms)) ≡ ok ns → Accepted t ns
+    go : (b : Bool) (r : Result (List Node)) → nodesOf t ≡ r → (need b TreeShape >> (r >>= λ ms. need (leavesOne ms) TreeShape >> ok ms)) ≡ ok ns → AcceptedTree t ns
     go true (ok ms) e k = last (leavesOne ms) ms refl e k
     go true (refused c) e k = let z : _≡_ {A = ℕ} 0 1 = cc in absurd (omega arith)
     go false r e k = let z : _≡_ {A = ℕ} 0 1 = cc in absurd (omega arith)

@@ -124,8 +124,8 @@ prepare a = do
   ok (record { chain = chain; code = code; conformer = conformer; location = location; name = name })
 
 -- the values with a stored name
-abbrev pub atomOf : NewAtom → ℕ → Atom
-atomOf v name =
+abbrev pub namedAtom : NewAtom → ℕ → Atom
+namedAtom v name =
     record {
       serial = v .serial;
       name = name;
@@ -140,7 +140,7 @@ atomOf v name =
     }
 
 abbrev pub newAtom : Addition → Prepare → Atom
-newAtom a p = atomOf (a .values) (p .name)
+newAtom a p = namedAtom (a .values) (p .name)
 
 pub data Which : Type 0 where
   first last : Which

@@ -22,7 +22,9 @@ pub fn add_atom(
     name: &[u8],
     values: NewAtom,
 ) -> Edited
-    ensures { λ r. ⌜ (editedNumbers r, now (store .exit)) ≡ storeStep (now (store .entry)) (AddAtom model (addition (now (chain .entry)) residue (optionalOf «code_flag» (now (code .entry))) (now (conformer .entry)) (optionalOf «location_flag» (now (location .entry))) (now (name .entry)) values)) ⌝ }
+    ensures { λ r. ⌜ (editedNumbers r, now (store .exit))
+        ≡ storeStep (now (store .entry)) (AddAtom model (addition (now (chain .entry)) residue
+        (optionalOf «code_flag» (now (code .entry))) (now (conformer .entry)) (optionalOf «location_flag» (now (location .entry))) (now (name .entry)) values)) ⌝ }
 {
     let checked = store::check(store);
     match checked {
