@@ -1,6 +1,6 @@
 // Where an atom's addition goes (document 01, "Edits"): the model, then the first chain, the last residue and the first conformer that
-// match. The store is known to be good. Additions in file order mostly go where the last one went: a `Cursor` says where that is, and
-// saves the scans of the model and of the chain.
+// match. The store is known to be good. Consecutive additions reuse the previous insertion point: a `Cursor` keeps it, which saves the
+// scans of the model and of the chain where a list is in file order.
 ghost use mathlib.Core.Path.{_≡_};
 ghost use mathlib.Core.Bool.{true, false};
 ghost use mathlib.Core.List.{[], _∷_};

@@ -12,7 +12,7 @@ use machine::Opened;
 use machine::Record;
 use machine::Refusal;
 
-// How many atoms a store holds, or why it isn't one.
+// How many atoms a store holds, or why its words are refused.
 pub enum Checked {
     Good(u64),
     Refused(Refusal),
