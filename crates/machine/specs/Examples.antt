@@ -8,7 +8,7 @@ use lib.ListN.{length, replicate}
 use lib.Ieee.{ofBits, sub, lt}
 use Rattle.machine.specs.Lists.{bytes, concatMap}
 use Rattle.machine.specs.Answer.{Result, ok, refused, refusalNumber}
-use Rattle.machine.specs.Text.{packed, pack, unpacked, withoutZeros, textOf, trimStart, trim, chainId, uppercaseOr, atomName, alternativeLocation, insertionCode, matches, matchesOptional, storedBy, packedText}
+use Rattle.machine.specs.Text.{packed, pack, unpacked, withoutZeros, textOf, trimStart, trim, chainId, uppercaseOr, atomName, alternativeLocation, insertionCode, matches, matchesOptional, storedBy, packedText, before}
 use Rattle.machine.specs.Record.{words, fieldsOf, goodValues, goodFields, goodRecord, readOut}
 use Rattle.machine.specs.Store.{flat, atomCount, laid, layOut, inOrder, goodLayout, sections, group, readStore, openRun}
 use Rattle.machine.specs.Query.{codes, nodeOf, nodesOf, run, leavesOne, readTree, treeValue, termValue, tables, packedName}
@@ -102,6 +102,11 @@ examples =
     ∷ example (bit (matches (65 ∷ 0 ∷ []) (packedName "A"))) (0 ∷ [])
     ∷ example (bit (matchesOptional (present "") 0)) (0 ∷ [])
     ∷ example (bit (matchesOptional absent 0)) (1 ∷ [])
+    -- the order of `str`: the first byte that differs decides, and a prefix comes first
+    ∷ example (bit (before (bytes "AZ") (bytes "BA"))) (1 ∷ [])
+    ∷ example (bit (before (bytes "BA") (bytes "AZ"))) (0 ∷ [])
+    ∷ example (bit (before (bytes "A") (bytes "AB"))) (1 ∷ [])
+    ∷ example (bit (before (bytes "AB") (bytes "A"))) (0 ∷ [])
     -- the store: the length, the end, the gap, the kinds, words not named
     ∷ example (openRun (replicate 3 9) .0 ++ openRun (replicate 3 9) .1) (0 ∷ 0 ∷ 0 ∷ 0 ∷ [])
     ∷ example (refusalOf (readStore [])) (1 ∷ [])
@@ -125,6 +130,9 @@ examples =
     ∷ example (refusalOf (readTree (node 28 0 0 ++ node 28 0 0))) (3 ∷ [])
     ∷ example (refusalOf (readTree (node 26 0 0 ++ node 28 0 0))) (3 ∷ [])
     ∷ example (refusalOf (readTree (node 28 0 0 ++ node 23 0 0 ++ node 28 0 0 ++ node 28 0 0))) (3 ∷ [])
+    -- a residue's serial number is equal or not
+    ∷ example (found S (node 5 7 0)) (4 ∷ 5 ∷ [])
+    ∷ example (found S (node 5 6 0) ++ found S (node 5 8 0)) []
     -- Kleene's tables: an undecided side stays open under Or with false, and under And with true
     ∷ example (found S (element7 ++ node 27 0 0 ++ node 24 0 0)) (4 ∷ 5 ∷ [])
     ∷ example (found S (element7 ++ node 28 0 0 ++ node 23 0 0 ++ node 26 0 0)) (5 ∷ [])
@@ -161,7 +169,7 @@ examples =
     ∷ []
 
 pub shown : map (λ (c : Case). c .given) examples ≡ map (λ (c : Case). c .stated) examples
-unfolding examples serialStore S packed unpacked withoutZeros textOf trimStart trim chainId uppercaseOr atomName matches storedBy packedText words fieldsOf goodValues goodFields goodRecord readOut flat atomCount laid layOut inOrder goodLayout sections group readStore openRun codes nodeOf nodesOf run leavesOne readTree treeValue termValue tables enter atomsIn atomsOf hitsIn hitsOf findRun branchAt replaceAt addModel prepare upsert addAtom removeAt removeFirst keepAtoms removeAtomsBy nonEmpty removeEmpty joinAt machineStep stepBy storeStep storeAfter storeAnswers numbered serials lookupIn lookupRun readInput digits printed programRun ofBits sub lt
+unfolding examples serialStore S packed unpacked withoutZeros textOf trimStart trim chainId uppercaseOr atomName matches storedBy packedText words fieldsOf goodValues goodFields goodRecord readOut flat atomCount laid layOut inOrder goodLayout sections group readStore openRun codes nodeOf nodesOf run leavesOne readTree treeValue termValue tables enter atomsIn atomsOf hitsIn hitsOf findRun branchAt replaceAt addModel prepare upsert addAtom removeAt removeFirst keepAtoms removeAtomsBy nonEmpty removeEmpty joinAt machineStep stepBy storeStep storeAfter storeAnswers numbered serials lookupIn lookupRun readInput digits printed programRun ofBits sub lt before
 shown = refl
 
 -- "over 65,536 bytes": the next multiple of 8 is refused
