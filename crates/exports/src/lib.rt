@@ -12,12 +12,21 @@ ghost use Rattle.machine.specs.Lookup.{lookupRun};
 ghost use Rattle.copies.specs.Copy.{copyRun};
 ghost use Rattle.edits.specs.Apply.{appliedNumbers, ran, applyRun};
 ghost use Rattle.exports.specs.Fields.{applyFields};
+ghost use Rattle.exports.specs.Version.{version};
 use edits::Applied;
 use machine::EditAnswer;
 use machine::FindAnswer;
 use machine::LookupAnswer;
 use machine::NewAtom;
 use store::Checked;
+
+// 0.2.0: the millions are the major number, the thousands the minor one.
+#[no_mangle]
+pub extern "C" fn jubrelti_version() -> u64
+    ensures { λ r. ⌜ r ≡ version ⌝ }
+{
+    2_000
+}
 
 // 0 for a good store, else the refusal's number.
 #[no_mangle]
