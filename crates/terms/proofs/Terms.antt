@@ -1,6 +1,6 @@
 -- Which level a term asks for, and its value where that level alone is known, or is not. Assumes nothing.
 use Prim.Native.Nat.{ℕ, zero, suc}
-use mathlib.Core.Path.{_≡_, refl, sym, ap}
+use mathlib.Core.Path.{_≡_, refl, sym, ap, _∙_}
 use mathlib.Core.Bool.{Bool, true, false, not, _&&_, _||_, cond, false≢true}
 use mathlib.Core.List.{List, [], _∷_}
 use mathlib.Core.Logic.{inl, inr}
@@ -20,7 +20,7 @@ use Rattle.machine.specs.declared.Term.{Term}
 use Rattle.machine.specs.declared.Term.the-variants.{ModelSerialNumber, ModelSerialNumberRange, ChainId, ChainIdRange, ResidueSerialNumber, ResidueSerialNumberRange, ResidueInsertionCode, ResidueId, ConformerName, ConformerAlternativeLocation, ConformerId, AtomSerialNumber, AtomSerialNumberRange, AtomName, Element, BFactor, BFactorRange, Occupancy, OccupancyRange, Backbone, SideChain, Hetero}
 use Rattle.machine.proofs.Term.{the-type}
 use Rattle.laws.specs.Lists.{and-both, and-true}
-use Rattle.terms.specs.Levels.{narrow}
+use Rattle.terms.specs.Levels.{byWords, narrow}
 
 -- the number of a term's case, from 0
 abbrev pub caseOf : Term → ℕ
@@ -145,6 +145,47 @@ asks-none g = simp same
 pub nothing : (names : Names) (t : Term) → Undecided ≡ termValue names nowhere t
 unfolding window
 nothing names t = sym (other names 0 nowhere t (asks-none (caseOf t)))
+
+-- ---- an atom's terms by its words, and by its floats
+
+-- whether the term of case g goes by the atom's words
+abbrev wordCase : ℕ → Bool
+wordCase g = leb 11 g && not (leb 15 g && leb g 18)
+
+words-case : (t : Term) → byWords t ≡ wordCase (caseOf t)
+words-case (ModelSerialNumber n) = refl
+words-case (ModelSerialNumberRange a b) = refl
+words-case (ChainId n) = refl
+words-case (ChainIdRange a b) = refl
+words-case (ResidueSerialNumber n) = refl
+words-case (ResidueSerialNumberRange a b) = refl
+words-case (ResidueInsertionCode n) = refl
+words-case (ResidueId a b) = refl
+words-case (ConformerName n) = refl
+words-case (ConformerAlternativeLocation n) = refl
+words-case (ConformerId a b) = refl
+words-case (AtomSerialNumber n) = refl
+words-case (AtomSerialNumberRange a b) = refl
+words-case (AtomName n) = refl
+words-case (Element n) = refl
+words-case (BFactor n) = refl
+words-case (BFactorRange a b) = refl
+words-case (Occupancy n) = refl
+words-case (OccupancyRange a b) = refl
+words-case Backbone = refl
+words-case SideChain = refl
+words-case Hetero = refl
+
+pub by-float : (ks : List ℕ) (t : Term) → all (λ g. not (wordCase g)) ks ≡ true → OneOf ks (caseOf t) → byWords t ≡ false
+by-float ks t a h = words-case t ∙ not-true (wordCase (caseOf t)) (each-key (λ g. not (wordCase g)) ks (caseOf t) a h)
+
+-- an arm of cases that go by the atom's words, or don't ask for the atom
+pub no-float : (names : Names) (e : Place) (ks : List ℕ) (t : Term) → all (λ g. wordCase g || not (asks g 5)) ks ≡ true → OneOf ks (caseOf t) → byWords t ≡ false → Undecided ≡ termValue names (window 5 5 e) t
+no-float names e ks t a h q = sym (other names 5 e t (or-else (wordCase (caseOf t)) (not (asks (caseOf t) 5)) (each-key (λ g. wordCase g || not (asks g 5)) ks (caseOf t) a h) (sym (words-case t) ∙ q)))
+  where
+    or-else : (a b : Bool) → a || b ≡ true → a ≡ false → b ≡ true
+    or-else true b h q = absurd (false≢true (sym q))
+    or-else false b h q = h
 
 -- ---- from the conformers down two levels say what a term's value is
 

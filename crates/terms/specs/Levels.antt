@@ -1,5 +1,6 @@
 -- Places at which one level alone is known, and the place that five records of a store make. Assumes nothing.
 use Prim.Native.Nat.{ℕ, _+_, _*_, _≤_}
+use mathlib.Core.Bool.{Bool, true, false}
 use mathlib.Core.List.{List}
 use mathlib.Core.Option.{Option, none, some}
 use lib.ListN.{length, getD}
@@ -8,6 +9,7 @@ use Rattle.machine.specs.Query.{Place, window, termValue}
 use Rattle.machine.specs.declared.Tri.{Tri}
 use Rattle.machine.specs.declared.Tri.the-variants.{False, True, Undecided}
 use Rattle.machine.specs.declared.Term.{Term}
+use Rattle.machine.specs.declared.Term.the-variants.{ModelSerialNumber, ModelSerialNumberRange, ChainId, ChainIdRange, ResidueSerialNumber, ResidueSerialNumberRange, ResidueInsertionCode, ResidueId, ConformerName, ConformerAlternativeLocation, ConformerId, AtomSerialNumber, AtomSerialNumberRange, AtomName, Element, BFactor, BFactorRange, Occupancy, OccupancyRange, Backbone, SideChain, Hetero}
 use Rattle.machine.specs.declared.RecordNumbers.{RecordNumbers}
 use Rattle.seek.specs.Seek.{recordAt}
 
@@ -25,6 +27,31 @@ atConformer o = record { model = none; chain = none; residue = none; conformer =
 
 abbrev pub atAtom : Option Atom → Place
 atAtom o = record { model = none; chain = none; residue = none; conformer = none; atom = o }
+
+-- a term that goes by the atom's numbers and names: all of an atom's but the four that go by its floats
+abbrev pub byWords : Term → Bool
+byWords (ModelSerialNumber n) = false
+byWords (ModelSerialNumberRange a b) = false
+byWords (ChainId n) = false
+byWords (ChainIdRange a b) = false
+byWords (ResidueSerialNumber n) = false
+byWords (ResidueSerialNumberRange a b) = false
+byWords (ResidueInsertionCode n) = false
+byWords (ResidueId a b) = false
+byWords (ConformerName n) = false
+byWords (ConformerAlternativeLocation n) = false
+byWords (ConformerId a b) = false
+byWords (AtomSerialNumber n) = true
+byWords (AtomSerialNumberRange a b) = true
+byWords (AtomName n) = true
+byWords (Element n) = true
+byWords (BFactor n) = false
+byWords (BFactorRange a b) = false
+byWords (Occupancy n) = false
+byWords (OccupancyRange a b) = false
+byWords Backbone = true
+byWords SideChain = true
+byWords Hetero = true
 
 -- all five levels known
 unfoldable pub placeAt : List ℕ → RecordNumbers → Place

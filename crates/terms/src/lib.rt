@@ -6,7 +6,7 @@ use machine::RecordNumbers;
 use machine::Term;
 use machine::Tri;
 ghost use mathlib.Core.Path.{_≡_};
-ghost use mathlib.Core.Bool.{cond};
+ghost use mathlib.Core.Bool.{cond, false};
 ghost use mathlib.Core.List.{List};
 ghost use mathlib.Core.Option.{some};
 ghost use Prim.Native.Nat.{ℕ, _+_, _*_, _≤_, _<_};
@@ -17,7 +17,7 @@ ghost use Rattle.machine.specs.Record.{Atom, fieldsOf, readOut};
 ghost use Rattle.machine.specs.Query as Query;
 ghost use Rattle.machine.specs.declared.Tri.the-variants.{False, Undecided};
 ghost use Rattle.seek.specs.Seek.{recordAt};
-ghost use Rattle.terms.specs.Levels.{atModel, atChain, atResidue, atConformer, atAtom, termValueAt, narrow, Inside};
+ghost use Rattle.terms.specs.Levels.{atModel, atChain, atResidue, atConformer, atAtom, byWords, termValueAt, narrow, Inside};
 
 // ---- Kleene's tables
 
@@ -176,6 +176,20 @@ fn element_is(element: u64, n: u64) -> Tri
     }
 }
 
+// The terms that go by one of the atom's floats.
+fn matches_float(t: Term, atom: AtomRec) -> Tri
+    ensures { λ r. ⌜ ((a : Atom) → atom ≡ readOut a → byWords t ≡ false → (names : Query.Names)
+        → r ≡ Query.termValue names (atAtom (some a)) t) ⌝ }
+{
+    match t {
+        Term::BFactor(x) => decided(floats::close(atom.b_factor, x)),
+        Term::BFactorRange(low, high) => decided(between_floats(low, high, atom.b_factor)),
+        Term::Occupancy(x) => decided(floats::close(atom.occupancy, x)),
+        Term::OccupancyRange(low, high) => decided(between_floats(low, high, atom.occupancy)),
+        _ => Tri::Undecided,
+    }
+}
+
 // The atom is given as it is read out of its record.
 pub fn optional_matches_atom(t: Term, atom: AtomRec, atoms: &[u64]) -> Tri
     ensures { λ r. ⌜ ((a : Atom) → atom ≡ readOut a → (others : List ℕ)
@@ -186,14 +200,10 @@ pub fn optional_matches_atom(t: Term, atom: AtomRec, atoms: &[u64]) -> Tri
         Term::AtomSerialNumberRange(low, high) => decided(between(low, high, atom.serial)),
         Term::AtomName(n) => decided(atom.name == n),
         Term::Element(n) => element_is(atom.element, n),
-        Term::BFactor(x) => decided(floats::close(atom.b_factor, x)),
-        Term::BFactorRange(low, high) => decided(between_floats(low, high, atom.b_factor)),
-        Term::Occupancy(x) => decided(floats::close(atom.occupancy, x)),
-        Term::OccupancyRange(low, high) => decided(between_floats(low, high, atom.occupancy)),
         Term::Backbone => decided(reference_tables::contains(atoms, atom.name)),
         Term::SideChain => decided(!reference_tables::contains(atoms, atom.name)),
         Term::Hetero => decided(atom.hetero),
-        _ => Tri::Undecided,
+        _ => matches_float(t, atom),
     }
 }
 
@@ -261,6 +271,8 @@ fn conformer_value(t: Term, words: &[u64], number: u64, known: bool, residues: &
     }
 }
 
+// The atom is read out at two places, so that its floats are made only for the terms that go by one: a float that may be no number takes
+// as many steps to make as the rest of a term.
 fn atom_value(t: Term, words: &[u64], number: u64, known: bool, atoms: &[u64]) -> Tri
     requires { ⌜ number * 12 + 12 ≤ length (now words) ⌝ }
     ensures { λ r. ⌜ ((others : List ℕ)
@@ -268,7 +280,15 @@ fn atom_value(t: Term, words: &[u64], number: u64, known: bool, atoms: &[u64]) -
         (atAtom (Query.onlyIf known (some (fieldsOf 0 (recordAt number (now (words .entry))))))) t) ⌝ }
 {
     if known {
-        optional_matches_atom(t, records::read_atom(words, number as usize), atoms)
+        match t {
+            Term::BFactor(_)
+            | Term::BFactorRange(_, _)
+            | Term::Occupancy(_)
+            | Term::OccupancyRange(_, _) => {
+                matches_float(t, records::read_atom(words, number as usize))
+            }
+            _ => optional_matches_atom(t, records::read_atom(words, number as usize), atoms),
+        }
     } else {
         Tri::Undecided
     }
