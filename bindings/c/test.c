@@ -1,12 +1,12 @@
-/* Builds document 01's store S, searches it and edits it, and passes NULL for each slice that can be empty; exits with 1 at the
-   first wrong answer. */
+/* Builds document 01's store S, searches it and edits it, passes NULL for each slice that can be empty, and tries each helper of the
+   header; exits with 1 at the first wrong answer. It is C99 and C++11. */
 #include "jubrelti.h"
 
+#include <float.h>
 #include <stdio.h>
 #include <stdlib.h>
-#include <string.h>
 
-enum { LENGTH = 6 * 12 + 1, LONGER = 12 * 12 + 1, OUT = 6 * 5 };
+enum { LENGTH = JUBRELTI_WORDS(6), LONGER = JUBRELTI_WORDS(12), OUT = 6 * 5 };
 
 /* Each is a block of its own length, so that valgrind sees an access outside it. */
 static uint64_t *store;
@@ -21,19 +21,12 @@ static void expect(const char *what, uint64_t is, uint64_t should) {
     }
 }
 
-/* A text as the packed word of a tree: its bytes from the highest byte down. */
-static uint64_t packed(const char *text) {
-    uint64_t word = 0;
-    for (size_t i = 0; i < 8 && text[i] != 0; i++) {
-        word |= (uint64_t)(uint8_t)text[i] << (56 - 8 * i);
+static void expect_text(const char *what, const char *is, const char *should) {
+    printf("%-44s \"%s\"\n", what, is);
+    if (strcmp(is, should) != 0) {
+        printf("should be \"%s\"\n", should);
+        exit(1);
     }
-    return word;
-}
-
-static uint64_t bits(double value) {
-    uint64_t word;
-    memcpy(&word, &value, sizeof word);
-    return word;
 }
 
 static const uint8_t *bytes(const char *text) {
@@ -42,7 +35,7 @@ static const uint8_t *bytes(const char *text) {
 
 /* Words that are no store. */
 static uint64_t *junk(size_t length) {
-    uint64_t *words = malloc(length * sizeof *words);
+    uint64_t *words = (uint64_t *)malloc(length * sizeof *words);
     if (words == NULL) {
         puts("there is no memory");
         exit(1);
@@ -51,23 +44,32 @@ static uint64_t *junk(size_t length) {
     return words;
 }
 
+static JubreltiNewAtom no_values(void) {
+    JubreltiNewAtom values;
+    memset(&values, 0, sizeof values);
+    return values;
+}
+
 /* An atom of residue 7, conformer ALA, in chain A of the first model. */
 static JubreltiEdit add(uint64_t serial, const char *name, uint64_t element, double x) {
-    JubreltiNewAtom values = {0};
+    JubreltiNewAtom values = no_values();
     values.serial = serial;
-    values.x = bits(x);
-    values.occupancy = bits(1.0);
+    values.x = jubrelti_bits(x);
+    values.occupancy = jubrelti_bits(1.0);
     values.element = element;
     return jubrelti_add_atom(store, LENGTH, 0, bytes("A"), 1, 7, 0, bytes(""), 0, bytes("ALA"), 3, 0, bytes(""), 0, bytes(name),
                              strlen(name), values);
 }
 
-static void cases(void) {
-    const uint64_t nitrogen[] = {JUBRELTI_ELEMENT, 7, 0};
-    const uint64_t not_nitrogen[] = {JUBRELTI_ELEMENT, 7, 0, JUBRELTI_NOT, 0, 0};
-    const uint64_t named_n[] = {JUBRELTI_ATOM_NAME, packed("N"), 0, JUBRELTI_ELEMENT, 7, 0, JUBRELTI_AND, 0, 0};
-    const uint64_t two_operands[] = {JUBRELTI_HETERO, 0, 0, JUBRELTI_HETERO, 0, 0};
+static uint64_t find(const uint64_t *tree, size_t tree_length) {
+    return jubrelti_find(store, LENGTH, tree, tree_length, out, OUT).result;
+}
 
+static uint64_t hits(const uint64_t *tree, size_t tree_length) {
+    return jubrelti_find(store, LENGTH, tree, tree_length, out, OUT).hits;
+}
+
+static void build(void) {
     expect("words that were never opened are refused", jubrelti_check(store, LENGTH), JUBRELTI_BROKEN_LAYOUT);
     expect("a store of no words is refused", jubrelti_open(store, 0), JUBRELTI_BAD_LENGTH);
     expect("open", jubrelti_open(store, LENGTH), JUBRELTI_DONE);
@@ -77,33 +79,37 @@ static void cases(void) {
     expect("add XX without an element", add(2, "XX", 0, 2.5).result, JUBRELTI_DONE);
     expect("the store is full", add(3, "C", 6, 3.5).result, JUBRELTI_NO_CAPACITY);
     expect("check", jubrelti_check(store, LENGTH), JUBRELTI_DONE);
-    expect("x of record 4", store[4 * 12 + 3], bits(1.5));
+    expect("x of record 4", store[4 * 12 + 3], jubrelti_bits(1.5));
+}
 
-    JubreltiFind found = jubrelti_find(store, LENGTH, nitrogen, 3, out, OUT);
-    expect("find nitrogen", found.result, JUBRELTI_DONE);
-    expect("hits, the undecided atom among them", found.hits, 2);
+static void search(void) {
+    const uint64_t nitrogen[] = {JUBRELTI_NODE_ELEMENT(7)};
+    const uint64_t not_nitrogen[] = {JUBRELTI_NODE_ELEMENT(7), JUBRELTI_NODE_NOT};
+    const uint64_t named_n[] = {JUBRELTI_NODE_ATOM_NAME("N"), JUBRELTI_NODE_ELEMENT(7), JUBRELTI_NODE_AND};
+    const uint64_t two_operands[] = {JUBRELTI_NODE_HETERO, JUBRELTI_NODE_HETERO};
+    expect("hits of nitrogen, the undecided atom among them", hits(nitrogen, 3), 2);
     expect("atom of the second hit", out[9], 5);
-    found = jubrelti_find(store, LENGTH, not_nitrogen, 6, out, OUT);
-    expect("hits of not nitrogen", found.hits, 1);
+    expect("hits of not nitrogen", hits(not_nitrogen, 6), 1);
     for (uint64_t level = 0; level < 5; level++) {
         expect("record", out[level], level == 4 ? 5 : level);
     }
-    expect("hits of N and nitrogen", jubrelti_find(store, LENGTH, named_n, 9, out, OUT).hits, 1);
-    expect("two operands are no tree", jubrelti_find(store, LENGTH, two_operands, 6, out, OUT).result, JUBRELTI_TREE_SHAPE);
+    expect("hits of N and nitrogen", hits(named_n, 9), 1);
+    expect("two operands are no tree", find(two_operands, 6), JUBRELTI_TREE_SHAPE);
     expect("no room for two hits", jubrelti_find(store, LENGTH, nitrogen, 3, out, 9).result, JUBRELTI_SHORT_OUTPUT);
-
     JubreltiLookup at = jubrelti_binary_find_atom(store, LENGTH, 2, 0, bytes(""), 0);
     expect("look up serial 2", at.found, 1);
     expect("its record", at.atom, 5);
     expect("serial 9 isn't there", jubrelti_binary_find_atom(store, LENGTH, 9, 0, bytes(""), 0).found, 0);
+}
 
+static void edit(void) {
+    const uint64_t not_nitrogen[] = {JUBRELTI_NODE_ELEMENT(7), JUBRELTI_NODE_NOT};
     expect("what was never opened can't be copied", jubrelti_copy(longer, LONGER, store, LENGTH), JUBRELTI_BROKEN_LAYOUT);
     expect("no words can't take a copy", jubrelti_copy(store, LENGTH, longer, 0), JUBRELTI_BAD_LENGTH);
     expect("copy into a longer store", jubrelti_copy(store, LENGTH, longer, LONGER), JUBRELTI_DONE);
     expect("its records end where they did", longer[LONGER - 1], store[LENGTH - 1]);
     expect("a record more has room", jubrelti_add_model(longer, LONGER, 2).result, JUBRELTI_DONE);
     expect("too much for a copy back", jubrelti_copy(longer, LONGER, store, LENGTH), JUBRELTI_NO_CAPACITY);
-
     JubreltiEdit edited = jubrelti_remove_atoms_by(store, LENGTH, 0, not_nitrogen, 6);
     expect("remove what is known not to be nitrogen", edited.removed, 0);
     expect("remove atom 0", jubrelti_remove_atom(store, LENGTH, 0, 0, 0, 0, 0).removed, 1);
@@ -112,7 +118,7 @@ static void cases(void) {
     expect("no chain B", edited.found, 0);
     edited = jubrelti_remove_chain_by_id(store, LENGTH, 0, bytes("A"), 1);
     expect("chain A and its atom go", edited.removed, 1);
-    expect("one record is left", store[LENGTH - 1], 12);
+    expect("one record is left", jubrelti_records(store, LENGTH), 1);
 }
 
 static size_t length_of(const char *text) {
@@ -121,16 +127,15 @@ static size_t length_of(const char *text) {
 
 /* An atom with these texts, NULL for an empty one. Insertion code and location are NULL, and absent or present by their flags. */
 static uint64_t add_texts(const char *chain, uint64_t code_flag, const char *conformer, uint64_t location_flag, const char *name) {
-    JubreltiNewAtom values = {0};
     JubreltiEdit edited =
         jubrelti_add_atom(store, LENGTH, 0, bytes(chain), length_of(chain), 7, code_flag, NULL, 0, bytes(conformer),
-                          length_of(conformer), location_flag, NULL, 0, bytes(name), length_of(name), values);
+                          length_of(conformer), location_flag, NULL, 0, bytes(name), length_of(name), no_values());
     return edited.result;
 }
 
 /* NULL as a store, which is refused. */
 static void no_store(void) {
-    const uint64_t all[] = {JUBRELTI_KNOWN_TRUE, 0, 0};
+    const uint64_t all[] = {JUBRELTI_NODE_KNOWN_TRUE};
     expect("check no words", jubrelti_check(NULL, 0), JUBRELTI_BAD_LENGTH);
     expect("open no words", jubrelti_open(NULL, 0), JUBRELTI_BAD_LENGTH);
     expect("copy no words", jubrelti_copy(NULL, 0, longer, LONGER), JUBRELTI_BAD_LENGTH);
@@ -166,13 +171,13 @@ static void no_texts(void) {
 
 /* NULL as a tree, an output and a list. */
 static void no_words(void) {
-    const uint64_t all[] = {JUBRELTI_KNOWN_TRUE, 0, 0};
-    const uint64_t none[] = {JUBRELTI_KNOWN_FALSE, 0, 0};
+    const uint64_t all[] = {JUBRELTI_NODE_KNOWN_TRUE};
+    const uint64_t none[] = {JUBRELTI_NODE_KNOWN_FALSE};
     const uint64_t list[] = {JUBRELTI_ADD_MODEL, 1, 2};
     expect("open", jubrelti_open(store, LENGTH), JUBRELTI_DONE);
     expect("add model 1", jubrelti_add_model(store, LENGTH, 1).result, JUBRELTI_DONE);
     expect("add N", add(1, "N", 7, 1.5).result, JUBRELTI_DONE);
-    expect("no nodes are no tree", jubrelti_find(store, LENGTH, NULL, 0, out, OUT).result, JUBRELTI_TREE_SHAPE);
+    expect("no nodes are no tree", find(NULL, 0), JUBRELTI_TREE_SHAPE);
     expect("nor for a removal", jubrelti_remove_atoms_by(store, LENGTH, 0, NULL, 0).result, JUBRELTI_TREE_SHAPE);
     expect("an output of no words has no room", jubrelti_find(store, LENGTH, all, 3, NULL, 0).result, JUBRELTI_SHORT_OUTPUT);
     expect("and is enough for no hit", jubrelti_find(store, LENGTH, none, 3, NULL, 0).result, JUBRELTI_DONE);
@@ -184,14 +189,176 @@ static void no_words(void) {
     expect("and a list of one is made", jubrelti_apply(store, LENGTH, list, 3, out, 3).calls, 1);
 }
 
+/* ---- the helpers */
+
+static void texts(void) {
+    const char *good[] = {"", "A", "ALA", "12345678", " ~", "a b"};
+    const char *bad[] = {"123456789", "a\tb", "\x1f", "\x7f", "\x80", "\xff", NULL};
+    char text[9];
+    for (size_t i = 0; i < JUBRELTI_LENGTH(good); i++) {
+        expect_text("a text packed and unpacked", jubrelti_unpack(jubrelti_text(good[i]), text), good[i]);
+    }
+    for (size_t i = 0; i < JUBRELTI_LENGTH(bad); i++) {
+        expect("a text that can't be packed", jubrelti_text(bad[i]), JUBRELTI_NO_TEXT);
+    }
+    expect("a packed text", jubrelti_text("AB"), 0x4142000000000000);
+    expect("an absent text", jubrelti_optional(NULL), 0);
+    expect("a present one", jubrelti_optional("AB"), jubrelti_text("AB"));
+    expect("a present empty one", jubrelti_optional(""), JUBRELTI_NO_TEXT);
+    expect("a long one", jubrelti_optional("123456789"), JUBRELTI_NO_TEXT);
+    expect("characters", JUBRELTI_CHARS('A', 'L', 'A'), jubrelti_text("ALA"));
+    expect("one", JUBRELTI_CHARS('A'), jubrelti_text("A"));
+    expect("eight", JUBRELTI_CHARS('1', '2', '3', '4', '5', '6', '7', '8'), jubrelti_text("12345678"));
+    expect("nine", JUBRELTI_CHARS('1', '2', '3', '4', '5', '6', '7', '8', '9'), JUBRELTI_NO_TEXT);
+    expect("ten", JUBRELTI_CHARS('1', '2', '3', '4', '5', '6', '7', '8', '9', '0'), JUBRELTI_NO_TEXT);
+}
+
+static void numbers(void) {
+    const double floats[] = {0.0, -0.0, 1.5, -1e300, DBL_MIN, DBL_MAX};
+    const int64_t integers[] = {0, 1, -1, INT64_MAX, INT64_MIN};
+    for (size_t i = 0; i < JUBRELTI_LENGTH(floats); i++) {
+        uint64_t word = jubrelti_bits(floats[i]);
+        expect("a float and back", jubrelti_float(word) == floats[i], 1);
+        expect("its bits again", jubrelti_bits(jubrelti_float(word)), word);
+    }
+    for (size_t i = 0; i < JUBRELTI_LENGTH(integers); i++) {
+        expect("a signed number and back", jubrelti_integer(jubrelti_signed(integers[i])) == integers[i], 1);
+    }
+    expect("bits of 1.0", jubrelti_bits(1.0), 0x3ff0000000000000);
+    expect("-1 as a word", jubrelti_signed(-1), UINT64_MAX);
+    expect("words for no record", jubrelti_words(0), 1);
+    expect("words for the most records", jubrelti_words(JUBRELTI_MAX_RECORDS), 1200001);
+    expect("words for one more", jubrelti_words(JUBRELTI_MAX_RECORDS + 1), 0);
+    expect("words for far too many", jubrelti_words(SIZE_MAX), 0);
+    expect("records of no words", jubrelti_records(NULL, 0), 0);
+}
+
+static void messages_and_version(void) {
+    const char *unknown = jubrelti_message(UINT64_MAX);
+    uint64_t known = 0;
+    for (uint64_t number = 0; number < 100; number++) {
+        const char *sentence = jubrelti_message(number);
+        if (strcmp(sentence, unknown) != 0) {
+            known++;
+            printf("%llu: %s\n", (unsigned long long)number, sentence);
+            expect("the sentence says what to do", strstr(sentence, "; ") != NULL, number != JUBRELTI_DONE);
+        }
+    }
+    expect("numbers with a sentence of their own", known, JUBRELTI_LENGTH(jubrelti_messages));
+    expect_text("an unknown number", unknown, "the refusal is unknown; use a header and a library of the same version");
+    expect("the library's version is the header's", jubrelti_version(), JUBRELTI_VERSION);
+    expect("so they agree", (uint64_t)jubrelti_version_agrees(), 1);
+}
+
+/* An atom whose fields all differ, in the first records of a new store. */
+static void full_atom(void) {
+    JubreltiNewAtom values = no_values();
+    values.serial = 17;
+    values.x = jubrelti_bits(1.5);
+    values.y = jubrelti_bits(-2.5);
+    values.z = jubrelti_bits(3.25);
+    values.occupancy = jubrelti_bits(0.5);
+    values.b_factor = jubrelti_bits(40.0);
+    values.element = 20;
+    values.charge = jubrelti_signed(-2);
+    values.hetero = 1;
+    expect("open", jubrelti_open(store, LENGTH), JUBRELTI_DONE);
+    expect("add model 3", jubrelti_add_model(store, LENGTH, 3).result, JUBRELTI_DONE);
+    JubreltiEdit edited = jubrelti_add_atom(store, LENGTH, 0, bytes("Chain"), 5, jubrelti_signed(-7), 1, bytes("I"), 1,
+                                            bytes("CALCIUM2"), 8, 1, bytes("B"), 1, bytes("CA"), 2, values);
+    expect("add an atom", edited.result, JUBRELTI_DONE);
+}
+
+static void records(void) {
+    char text[9];
+    full_atom();
+    expect("its records", jubrelti_records(store, LENGTH), 5);
+    for (uint64_t r = 0; r < 5; r++) {
+        expect("kind", jubrelti_record_kind(store, r), JUBRELTI_KIND_MODEL + r);
+    }
+    expect("the last kind", jubrelti_record_kind(store, 4), JUBRELTI_KIND_ATOM);
+    expect("model's serial number", jubrelti_model_serial_number(store, 0), 3);
+    expect_text("chain's id", jubrelti_chain_id(store, 1, text), "Chain");
+    expect("residue's serial number", jubrelti_residue_serial_number(store, 2) == -7, 1);
+    expect_text("its insertion code", jubrelti_residue_insertion_code(store, 2, text), "I");
+    expect_text("conformer's name", jubrelti_conformer_name(store, 3, text), "CALCIUM2");
+    expect_text("its alternative location", jubrelti_conformer_alternative_location(store, 3, text), "B");
+    expect("atom's serial number", jubrelti_atom_serial_number(store, 4), 17);
+    expect_text("its name", jubrelti_atom_name(store, 4, text), "CA");
+    expect("x", jubrelti_atom_x(store, 4) == 1.5, 1);
+    expect("y", jubrelti_atom_y(store, 4) == -2.5, 1);
+    expect("z", jubrelti_atom_z(store, 4) == 3.25, 1);
+    expect("occupancy", jubrelti_atom_occupancy(store, 4) == 0.5, 1);
+    expect("B-factor", jubrelti_atom_b_factor(store, 4) == 40.0, 1);
+    expect("element", jubrelti_atom_element(store, 4), 20);
+    expect("charge", jubrelti_atom_charge(store, 4) == -2, 1);
+    expect("hetero", jubrelti_atom_hetero(store, 4), 1);
+}
+
+/* A tree outside any function needs constants. */
+static const uint64_t static_tree[] = {JUBRELTI_CONFORMER_NAME, JUBRELTI_CHARS('C', 'A', 'L', 'C', 'I', 'U', 'M', '2'), 0,
+                                       JUBRELTI_NODE_ELEMENT(20), JUBRELTI_NODE_RESIDUE_SERIAL_NUMBER(-7), JUBRELTI_NODE_AND,
+                                       JUBRELTI_NODE_AND};
+
+/* A node of each code in the order of the codes. Each term but two is true of the atom of full_atom, which is in no amino acid. */
+static void nodes(void) {
+    const uint64_t all[] = {
+        JUBRELTI_NODE_MODEL_SERIAL_NUMBER(3), JUBRELTI_NODE_MODEL_SERIAL_NUMBER_RANGE(2, 3), JUBRELTI_NODE_CHAIN_ID("Chain"),
+        JUBRELTI_NODE_CHAIN_ID_RANGE("C", "D"), JUBRELTI_NODE_RESIDUE_SERIAL_NUMBER(-7),
+        JUBRELTI_NODE_RESIDUE_SERIAL_NUMBER_RANGE(-8, 0), JUBRELTI_NODE_RESIDUE_INSERTION_CODE("I"),
+        JUBRELTI_NODE_RESIDUE_ID(-7, "I"), JUBRELTI_NODE_CONFORMER_NAME("CALCIUM2"),
+        JUBRELTI_NODE_CONFORMER_ALTERNATIVE_LOCATION("B"), JUBRELTI_NODE_CONFORMER_ID("CALCIUM2", "B"),
+        JUBRELTI_NODE_ATOM_SERIAL_NUMBER(17), JUBRELTI_NODE_ATOM_SERIAL_NUMBER_RANGE(17, 18), JUBRELTI_NODE_ATOM_NAME("CA"),
+        JUBRELTI_NODE_ELEMENT(20), JUBRELTI_NODE_B_FACTOR(40.0), JUBRELTI_NODE_B_FACTOR_RANGE(30.0, 60),
+        JUBRELTI_NODE_OCCUPANCY(0.5), JUBRELTI_NODE_OCCUPANCY_RANGE(0, 0.5), JUBRELTI_NODE_BACKBONE, JUBRELTI_NODE_SIDE_CHAIN,
+        JUBRELTI_NODE_HETERO, JUBRELTI_NODE_AND, JUBRELTI_NODE_OR, JUBRELTI_NODE_XOR, JUBRELTI_NODE_NOT, JUBRELTI_NODE_KNOWN_FALSE,
+        JUBRELTI_NODE_KNOWN_TRUE};
+    expect("words of 28 nodes", JUBRELTI_LENGTH(all), 28 * 3);
+    for (uint64_t i = 0; i < 28; i++) {
+        expect("code", all[3 * i], i + 1);
+    }
+    for (uint64_t i = 0; i < 22; i++) {
+        int is_false = i + 1 == JUBRELTI_BACKBONE || i + 1 == JUBRELTI_SIDE_CHAIN;
+        expect("a term is accepted", find(all + 3 * i, 3), JUBRELTI_DONE);
+        expect("hits", hits(all + 3 * i, 3), is_false ? 0 : 1);
+    }
+    expect("hits of a static tree", hits(static_tree, JUBRELTI_LENGTH(static_tree)), 1);
+}
+
+/* What is no text is refused by each call with a tree, in each place of a text. */
+static void bad_texts(void) {
+    const uint64_t trees[][3] = {{JUBRELTI_NODE_CHAIN_ID("123456789")},
+                                 {JUBRELTI_NODE_CHAIN_ID_RANGE("A", "123456789")},
+                                 {JUBRELTI_NODE_RESIDUE_INSERTION_CODE("")},
+                                 {JUBRELTI_NODE_RESIDUE_ID(7, "123456789")},
+                                 {JUBRELTI_NODE_CONFORMER_NAME("\xc3\x85")},
+                                 {JUBRELTI_NODE_CONFORMER_ALTERNATIVE_LOCATION("")},
+                                 {JUBRELTI_NODE_CONFORMER_ID("ALA", "")},
+                                 {JUBRELTI_NODE_ATOM_NAME(NULL)},
+                                 {JUBRELTI_ATOM_NAME, JUBRELTI_CHARS('C', 0, 'A'), 0},
+                                 {JUBRELTI_ATOM_NAME, JUBRELTI_CHARS('C', '\n'), 0}};
+    for (size_t i = 0; i < JUBRELTI_LENGTH(trees); i++) {
+        expect("find refuses the text", find(trees[i], 3), JUBRELTI_TREE_NODE);
+        expect("so does a removal", jubrelti_remove_atoms_by(store, LENGTH, 0, trees[i], 3).result, JUBRELTI_TREE_NODE);
+    }
+}
+
 int main(void) {
     store = junk(LENGTH);
     longer = junk(LONGER);
     out = junk(OUT);
-    cases();
+    build();
+    search();
+    edit();
     no_store();
     no_texts();
     no_words();
+    texts();
+    numbers();
+    messages_and_version();
+    records();
+    nodes();
+    bad_texts();
     free(store);
     free(longer);
     free(out);
