@@ -10,11 +10,11 @@ fn has_library(dir: &Path) -> bool {
     dir.join(ARCHIVE).exists() || dir.join(SHARED).exists()
 }
 
-// The folder by its variable, since `--libs-only-L` leaves out a folder of the system's.
+// The folder by its variable, since `--libs-only-L` leaves out a folder of the system's. A blank in it has a backslash before it.
 fn by_pkg_config() -> Option<PathBuf> {
     let answer = Command::new("pkg-config").args(["--variable=libdir", "jubrelti"]).output().ok()?;
-    let dir = String::from_utf8(answer.stdout).ok()?;
-    Some(PathBuf::from(dir.trim())).filter(|_| answer.status.success())
+    let dir = String::from_utf8(answer.stdout).ok()?.trim().replace("\\ ", " ");
+    Some(PathBuf::from(dir)).filter(|_| answer.status.success())
 }
 
 fn in_the_repository() -> Option<PathBuf> {
