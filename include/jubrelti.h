@@ -1,7 +1,8 @@
 /*
  * Jubrelti: a verified model store and atom search for protein structures.
  *
- * `bindings/dist` makes the library: target/dist/lib has libjubrelti.a, libjubrelti.so and, for pkg-config, jubrelti.pc.
+ * This header is C99 and C++11. `bindings/dist` makes the library: target/dist/lib has libjubrelti.a and libjubrelti.so, and
+ * pkgconfig/jubrelti.pc in it is for pkg-config.
  *
  * A store is an array of words that the caller owns: 12 for each record (model, chain, residue, conformer or atom) and one more,
  * at most 1,200,001. Each call takes the store and its length in words first. Positions are indexes from 0, from the model down.
