@@ -255,7 +255,9 @@ JubreltiApply jubrelti_apply(uint64_t *JUBRELTI_RESTRICT store, size_t length, c
 #define JUBRELTI_MAX_RECORDS 100000
 #define JUBRELTI_WORDS(records) ((records) <= JUBRELTI_MAX_RECORDS ? 12 * (size_t)(records) + 1 : 0)
 
-static inline size_t jubrelti_words(size_t records) { return JUBRELTI_WORDS(records); }
+static inline size_t jubrelti_words(size_t records) {
+    return JUBRELTI_WORDS(records);
+}
 
 /* How many elements an array has, such as a tree that is written with the macros below. A pointer won't do. */
 #define JUBRELTI_LENGTH(array) (sizeof(array) / sizeof *(array))
@@ -391,6 +393,7 @@ static inline uint64_t jubrelti_records(const uint64_t *store, size_t length) {
     return length == 0 ? 0 : store[length - 1] / 12;
 }
 
+/* Word k of a record; docs/FORMATS.md has the words of each kind. */
 static inline uint64_t jubrelti_record_word(const uint64_t *store, uint64_t r, uint64_t k) {
     return store[12 * r + k];
 }
