@@ -1,221 +1,136 @@
-// Lists of edits in one call (docs/FORMATS.md, "List of edits"). Safety of the call: see store.rs.
-use crate::edits::numbers;
-use crate::{ffi, Edited, Error, NewAtom, Search, Store, Words};
-use std::fmt;
+// Lists of edits made in one call.
+use crate::store::{doubled, records, room};
+use crate::{ffi, Edited, Edits, Error, Store, Words, MAX_RECORDS};
 
-#[repr(C)]
-struct Apply {
-    result: u64,
-    calls: u64,
-}
-
-extern "C" {
-    fn jubrelti_apply(store: ffi::Words, n: usize, list: ffi::Shared, l: usize, out: ffi::Words, o: usize) -> Apply;
-}
-
-/// Edits to be made one after another by [Store::apply]. Its methods are the store's own, and take the same arguments.
-#[derive(Clone, Debug, Default)]
-pub struct Edits {
-    words: Vec<u64>,
-    calls: usize,
-}
-
-/// Why none of a list's edits was made.
+/// The answers of a list's edits, in their order.
+///
+/// A list doesn't stop at a refused edit, so the answers say what was lost. The compiler warns where nobody asks them:
+///
+/// ```compile_fail
+/// #![deny(unused_must_use)]
+/// # use jubrelti::*;
+/// # fn main() -> Result<(), Error> {
+/// let mut store = Store::new();
+/// store.apply(Edits::new().add_model(1))?;
+/// # Ok(())
+/// # }
+/// ```
+///
+/// ```
+/// #![deny(unused_must_use)]
+/// # use jubrelti::*;
+/// # fn main() -> Result<(), Error> {
+/// let mut store = Store::new();
+/// store.apply(Edits::new().add_model(1))?.all()?;
+/// # Ok(())
+/// # }
+/// ```
 #[derive(Clone, Debug, PartialEq, Eq)]
-pub enum ListError {
-    /// 1 or 2: the store was refused.
-    Store(Error),
-    /// 22: the words are not a well-formed list of edits.
-    BadList,
-    /// 23: the output is shorter than three words for each edit.
-    ShortOutput,
+#[must_use = "a refused edit of the list shows here alone; `.all()?` makes it an error"]
+pub struct Applied {
+    answers: Vec<Result<Edited, Error>>,
 }
 
-impl ListError {
-    /// The number of the refusal.
-    pub fn number(&self) -> Option<u64> {
-        match self {
-            ListError::Store(error) => error.number(),
-            ListError::BadList => Some(22),
-            ListError::ShortOutput => Some(23),
-        }
+impl Applied {
+    /// What each edit did, or the first refusal as [Error::Edit].
+    pub fn all(self) -> Result<Vec<Edited>, Error> {
+        let by_index = self.answers.into_iter().enumerate();
+        by_index.map(|(index, answer)| answer.map_err(|cause| Error::Edit { index, cause: Box::new(cause) })).collect()
     }
-}
 
-impl fmt::Display for ListError {
-    fn fmt(&self, f: &mut fmt::Formatter<'_>) -> fmt::Result {
-        match self {
-            ListError::Store(error) => error.fmt(f),
-            ListError::BadList => f.write_str("an edit of the list has over 1,024 words; shorten its texts or its search"),
-            ListError::ShortOutput => f.write_str("the output has no room for all answers; lend three words for each edit"),
-        }
+    /// The refused edits: the index of each in the list, from 0, and why it was refused.
+    pub fn refused(&self) -> impl Iterator<Item = (usize, &Error)> + '_ {
+        self.answers.iter().enumerate().filter_map(|(index, answer)| Some((index, answer.as_ref().err()?)))
+    }
+
+    /// The answer of each edit.
+    pub fn answers(&self) -> &[Result<Edited, Error>] {
+        &self.answers
+    }
+
+    fn found_no_room(&self) -> bool {
+        self.answers.contains(&Err(Error::NoCapacity))
     }
 }
 
-impl std::error::Error for ListError {}
+impl IntoIterator for Applied {
+    type Item = Result<Edited, Error>;
+    type IntoIter = std::vec::IntoIter<Self::Item>;
 
-// "a text as given, a byte to a word"
-fn text(text: &str) -> Vec<u64> {
-    text.bytes().map(u64::from).collect()
-}
-
-fn optional(given: Option<&str>) -> (u64, Vec<u64>) {
-    (given.is_some() as u64, text(given.unwrap_or("")))
-}
-
-impl Edits {
-    /// No edit yet.
-    pub fn new() -> Self {
-        Self::default()
-    }
-
-    // "its code, the number n of words behind this header, and those n words: first its numbers, then its parts, each a length and
-    // as many words"
-    fn push(&mut self, code: u64, numbers: &[u64], parts: &[Vec<u64>]) -> &mut Self {
-        let behind = numbers.len() + parts.iter().map(|part| 1 + part.len()).sum::<usize>();
-        self.words.extend([code, behind as u64]);
-        self.words.extend(numbers);
-        for part in parts {
-            self.words.push(part.len() as u64);
-            self.words.extend(part);
-        }
-        self.calls += 1;
-        self
-    }
-
-    /// See [Store::add_model].
-    pub fn add_model(&mut self, serial_number: usize) -> &mut Self {
-        self.push(1, &[serial_number as u64], &[])
-    }
-
-    /// See [Store::add_atom].
-    pub fn add_atom(
-        &mut self,
-        model: usize,
-        new_atom: NewAtom,
-        chain_id: impl AsRef<str>,
-        residue_id: (isize, Option<&str>),
-        conformer_id: (impl AsRef<str>, Option<&str>),
-    ) -> &mut Self {
-        let (code_flag, code) = optional(residue_id.1);
-        let (location_flag, location) = optional(conformer_id.1);
-        let v = new_atom.values();
-        let place = [model as u64, residue_id.0 as u64, code_flag, location_flag];
-        let values = [v.serial, v.x, v.y, v.z, v.occupancy, v.b_factor, v.element, v.charge, v.hetero];
-        let parts = [text(chain_id.as_ref()), code, text(conformer_id.0.as_ref()), location, text(new_atom.name)];
-        self.push(2, &[&place[..], &values[..]].concat(), &parts)
-    }
-
-    /// See [Store::remove_chain].
-    pub fn remove_chain(&mut self, position: [usize; 2]) -> &mut Self {
-        self.push(3, &numbers(position), &[])
-    }
-
-    /// See [Store::remove_residue].
-    pub fn remove_residue(&mut self, position: [usize; 3]) -> &mut Self {
-        self.push(4, &numbers(position), &[])
-    }
-
-    /// See [Store::remove_conformer].
-    pub fn remove_conformer(&mut self, position: [usize; 4]) -> &mut Self {
-        self.push(5, &numbers(position), &[])
-    }
-
-    /// See [Store::remove_atom].
-    pub fn remove_atom(&mut self, position: [usize; 5]) -> &mut Self {
-        self.push(6, &numbers(position), &[])
-    }
-
-    /// See [Store::remove_chain_by_id].
-    pub fn remove_chain_by_id(&mut self, model: usize, id: impl AsRef<str>) -> &mut Self {
-        self.push(7, &[model as u64], &[text(id.as_ref())])
-    }
-
-    /// See [Store::remove_residue_by_id].
-    pub fn remove_residue_by_id(&mut self, chain: [usize; 2], id: (isize, Option<&str>)) -> &mut Self {
-        let [model, chain] = numbers(chain);
-        let (flag, code) = optional(id.1);
-        self.push(8, &[model, chain, id.0 as u64, flag], &[code])
-    }
-
-    /// See [Store::remove_conformer_by_id].
-    pub fn remove_conformer_by_id(&mut self, residue: [usize; 3], id: (&str, Option<&str>)) -> &mut Self {
-        let [model, chain, residue] = numbers(residue);
-        let (flag, location) = optional(id.1);
-        self.push(9, &[model, chain, residue, flag], &[text(id.0), location])
-    }
-
-    /// See [Store::remove_atom_by_serial_number].
-    pub fn remove_atom_by_serial_number(&mut self, conformer: [usize; 4], serial_number: usize) -> &mut Self {
-        let [model, chain, residue, conformer] = numbers(conformer);
-        self.push(10, &[model, chain, residue, conformer, serial_number as u64], &[])
-    }
-
-    /// See [Store::remove_atoms_by]. A search whose text can't be packed is refused here.
-    pub fn remove_atoms_by(&mut self, model: usize, search: impl Into<Search>) -> Result<&mut Self, Error> {
-        let tree = search.into().nodes()?;
-        Ok(self.push(11, &[model as u64], &[tree]))
-    }
-
-    /// See [Store::remove_empty].
-    pub fn remove_empty(&mut self, model: usize) -> &mut Self {
-        self.push(12, &[model as u64], &[])
-    }
-
-    /// See [Store::join_models].
-    pub fn join_models(&mut self, first: usize, second: usize) -> &mut Self {
-        self.push(13, &numbers([first, second]), &[])
-    }
-
-    /// See [Store::join_chains].
-    pub fn join_chains(&mut self, first: [usize; 2], second: [usize; 2]) -> &mut Self {
-        self.push(14, &[numbers(first), numbers(second)].concat(), &[])
-    }
-
-    /// See [Store::join_residues].
-    pub fn join_residues(&mut self, first: [usize; 3], second: [usize; 3]) -> &mut Self {
-        self.push(15, &[numbers(first), numbers(second)].concat(), &[])
-    }
-
-    /// See [Store::join_conformers].
-    pub fn join_conformers(&mut self, first: [usize; 4], second: [usize; 4]) -> &mut Self {
-        self.push(16, &[numbers(first), numbers(second)].concat(), &[])
+    fn into_iter(self) -> Self::IntoIter {
+        self.answers.into_iter()
     }
 }
 
 impl<W: Words> Store<W> {
-    /// Makes the edits in their order and gives the answer of each; a refused one changes nothing, and the next follows.
+    /// Makes all edits in their order, or none: at a refusal the store is as it was, and the error is [Error::Edit] with the edit's
+    /// index.
     ///
-    /// Where one of them has no room in a store that can grow, all of them are made on a longer one.
-    pub fn apply(&mut self, edits: &Edits) -> Result<Vec<Result<Edited, Error>>, ListError> {
-        if !W::GROWS {
-            return self.apply_once(edits);
+    /// ```
+    /// use jubrelti::*;
+    ///
+    /// # fn main() -> Result<(), Error> {
+    /// let mut store = Store::new();
+    /// let mut edits = Edits::new();
+    /// edits.add_model(1).add_atom(0, NewAtom::default(), "too long a chain", (1, None), ("GLY", None));
+    /// let refused = store.apply_all(&edits);
+    /// assert_eq!(refused, Err(Error::Edit { index: 1, cause: Box::new(Error::BadIdentifier) }));
+    /// assert_eq!(store.words(), [0]);
+    /// # Ok(())
+    /// # }
+    /// ```
+    pub fn apply_all(&mut self, edits: &Edits) -> Result<Vec<Edited>, Error> {
+        if W::GROWS {
+            let (words, applied) = self.apply_to_copy(edits)?;
+            let edited = applied.all()?;
+            self.replace(words);
+            return Ok(edited);
         }
-        loop {
-            let before = self.words().to_vec();
-            let answers = self.apply_once(edits)?;
-            if !answers.contains(&Err(Error::NoCapacity)) {
-                return Ok(answers);
-            }
-            match W::longer(&before) {
-                Some(longer) => self.words = longer,
-                None => return Ok(answers),
-            }
+        let before = self.words().to_vec();
+        let edited = apply_once(self.words_mut(), edits)?.all();
+        if edited.is_err() {
+            self.words_mut().copy_from_slice(&before);
         }
+        edited
     }
 
-    fn apply_once(&mut self, edits: &Edits) -> Result<Vec<Result<Edited, Error>>, ListError> {
-        let words = self.words_mut();
-        let list = &edits.words;
-        let mut out = vec![0; edits.calls * 3];
-        let applied = unsafe { jubrelti_apply(words.as_mut_ptr(), words.len(), list.as_ptr(), list.len(), out.as_mut_ptr(), out.len()) };
-        match applied.result {
-            22 => return Err(ListError::BadList),
-            23 => return Err(ListError::ShortOutput),
-            other => Error::check(other).map_err(ListError::Store)?,
+    /// Makes the edits in their order and gives the answer of each; a refused one changes nothing, and the next follows. Where all of
+    /// them are to be made or none, [Store::apply_all] is the call.
+    ///
+    /// A store that can grow makes room for the list's additions first. Where one of them finds no room nevertheless, all edits are made
+    /// on a longer copy of the store as it was before.
+    pub fn apply(&mut self, edits: &Edits) -> Result<Applied, Error> {
+        if !W::GROWS {
+            return apply_once(self.words_mut(), edits);
         }
-        // "An answer is three words in the output, in the order of the calls: result, found, removed."
-        let answers = out.chunks_exact(3).take(applied.calls as usize);
-        Ok(answers.map(|a| Error::check(a[0]).map(|()| Edited { found: a[1] == 1, removed: a[2] as usize })).collect())
+        let (words, applied) = self.apply_to_copy(edits)?;
+        self.replace(words);
+        Ok(applied)
     }
+
+    // A copy that has room for the list, with the edits made, and their answers.
+    //
+    // The list's count of records can be too low: a code in small letters is stored in capitals, so the next atom with it doesn't find its
+    // residue and makes another. A later edit may have gone by what one without room did not add, so all of them are made again.
+    fn apply_to_copy(&self, edits: &Edits) -> Result<(W, Applied), Error> {
+        let now = room(self.words());
+        let mut needed = (records(self.words()) + edits.records()).min(MAX_RECORDS).max(now);
+        loop {
+            let mut words = W::with_room(self.words(), needed)?;
+            let applied = apply_once(words.as_mut(), edits)?;
+            match doubled(needed).filter(|_| applied.found_no_room()) {
+                Some(more) => needed = more,
+                None => return Ok((words, applied)),
+            }
+        }
+    }
+}
+
+fn apply_once(store: &mut [u64], edits: &Edits) -> Result<Applied, Error> {
+    let mut out = vec![0; edits.calls() * 3];
+    let applied = ffi::apply(store, edits.words(), &mut out);
+    Error::check(applied.result)?;
+    // "An answer is three words in the output, in the order of the calls: result, found, removed."
+    let answers = out.chunks_exact(3).map(|a| Edited::read(ffi::Edit { result: a[0], found: a[1], removed: a[2] })).collect();
+    Ok(Applied { answers })
 }

@@ -1,6 +1,7 @@
-// The sixteen edits. Safety of the calls: see store.rs.
-use crate::store::optional;
-use crate::{ffi, Element, Error, Search, Store, Words};
+// The edits one by one, each of which checks the whole store first.
+use crate::new_atom::optional;
+use crate::store::{doubled, room};
+use crate::{ffi, Error, NewAtom, Search, Store, Words};
 
 /// What an accepted edit did.
 #[derive(Clone, Copy, Debug, PartialEq, Eq)]
@@ -11,35 +12,10 @@ pub struct Edited {
     pub removed: usize,
 }
 
-/// An atom to be added. By default all numbers are 0, the name is empty, and the element is missing.
-#[derive(Clone, Copy, Debug, Default, PartialEq)]
-#[allow(missing_docs)]
-pub struct NewAtom<'a> {
-    pub serial_number: usize,
-    pub name: &'a str,
-    pub x: f64,
-    pub y: f64,
-    pub z: f64,
-    pub occupancy: f64,
-    pub b_factor: f64,
-    pub element: Option<Element>,
-    pub charge: isize,
-    pub hetero: bool,
-}
-
-impl NewAtom<'_> {
-    pub(crate) fn values(&self) -> ffi::NewAtom {
-        ffi::NewAtom {
-            serial: self.serial_number as u64,
-            x: self.x.to_bits(),
-            y: self.y.to_bits(),
-            z: self.z.to_bits(),
-            occupancy: self.occupancy.to_bits(),
-            b_factor: self.b_factor.to_bits(),
-            element: self.element.map_or(0, |e| e.atomic_number() as u64),
-            charge: self.charge as u64,
-            hetero: self.hetero as u64,
-        }
+impl Edited {
+    pub(crate) fn read(answer: ffi::Edit) -> Result<Self, Error> {
+        Error::check(answer.result)?;
+        Ok(Edited { found: answer.found == 1, removed: answer.removed as usize })
     }
 }
 
@@ -49,26 +25,27 @@ pub(crate) fn numbers<const N: usize>(position: [usize; N]) -> [u64; N] {
 
 /// The edits. A position is its indexes from 0, from the model down: `[model, chain, residue, conformer, atom]`.
 impl<W: Words> Store<W> {
-    // A refusal has changed nothing, so what has no room is tried again on a longer copy.
-    fn edit(&mut self, call: impl Fn(ffi::Words, usize) -> ffi::Edit) -> Result<Edited, Error> {
-        loop {
-            let words = self.words_mut();
-            let answer = call(words.as_mut_ptr(), words.len());
-            match Error::check(answer.result) {
-                Ok(()) => return Ok(Edited { found: answer.found == 1, removed: answer.removed as usize }),
-                Err(Error::NoCapacity) => self.words = W::longer(self.words()).ok_or(Error::NoCapacity)?,
-                Err(refusal) => return Err(refusal),
+    // What has no room is tried again on longer copies, of which the one that has it is kept.
+    pub(crate) fn edit(&mut self, call: impl Fn(&mut [u64]) -> ffi::Edit) -> Result<Edited, Error> {
+        let mut answer = Edited::read(call(self.words_mut()));
+        let mut records = room(self.words());
+        while let (true, Err(Error::NoCapacity), Some(more)) = (W::GROWS, &answer, doubled(records)) {
+            let mut longer = W::with_room(self.words(), more)?;
+            answer = Edited::read(call(longer.as_mut()));
+            records = more;
+            if answer.is_ok() {
+                self.replace(longer);
             }
         }
-    }
-
-    /// Adds a model after the others.
-    pub fn add_model(&mut self, serial_number: usize) -> Result<Edited, Error> {
-        self.edit(|s, n| unsafe { ffi::jubrelti_add_model(s, n, serial_number as u64) })
+        answer
     }
 
     /// Adds an atom to the first chain, the last residue in it and the first conformer in that with these ids; what is missing is
     /// made. Insertion code and alternative location are looked for as given, and stored in capitals.
+    ///
+    /// Each addition by this call checks the whole store, so that 50,000 atoms one by one take 33 s. A
+    /// [ModelBuilder](crate::ModelBuilder) or a list ([Edits](crate::Edits)) checks it once, and is fastest where the additions go chain
+    /// by chain.
     pub fn add_atom(
         &mut self,
         model: usize,
@@ -77,122 +54,79 @@ impl<W: Words> Store<W> {
         residue_id: (isize, Option<&str>),
         conformer_id: (impl AsRef<str>, Option<&str>),
     ) -> Result<Edited, Error> {
-        let chain = chain_id.as_ref();
-        let (residue, code) = residue_id;
-        let conformer = conformer_id.0.as_ref();
-        let name = new_atom.name;
-        let (code_flag, code, code_length) = optional(code);
-        let (location_flag, location, location_length) = optional(conformer_id.1);
-        let values = new_atom.values();
-        self.edit(|s, n| unsafe {
-            ffi::jubrelti_add_atom(
-                s,
-                n,
-                model as u64,
-                chain.as_ptr(),
-                chain.len(),
-                residue as u64,
-                code_flag,
-                code,
-                code_length,
-                conformer.as_ptr(),
-                conformer.len(),
-                location_flag,
-                location,
-                location_length,
-                name.as_ptr(),
-                name.len(),
-                values,
-            )
-        })
+        let new = new_atom.at(model, chain_id.as_ref(), residue_id, (conformer_id.0.as_ref(), conformer_id.1));
+        self.edit(|store| ffi::add_atom(store, &new))
     }
 
     /// Removes a chain.
     pub fn remove_chain(&mut self, position: [usize; 2]) -> Result<Edited, Error> {
-        let [model, chain] = numbers(position);
-        self.edit(|s, n| unsafe { ffi::jubrelti_remove_chain(s, n, model, chain) })
+        self.edit(|store| ffi::remove_chain(store, numbers(position)))
     }
 
     /// Removes a residue.
     pub fn remove_residue(&mut self, position: [usize; 3]) -> Result<Edited, Error> {
-        let [model, chain, residue] = numbers(position);
-        self.edit(|s, n| unsafe { ffi::jubrelti_remove_residue(s, n, model, chain, residue) })
+        self.edit(|store| ffi::remove_residue(store, numbers(position)))
     }
 
     /// Removes a conformer.
     pub fn remove_conformer(&mut self, position: [usize; 4]) -> Result<Edited, Error> {
-        let [model, chain, residue, conformer] = numbers(position);
-        self.edit(|s, n| unsafe { ffi::jubrelti_remove_conformer(s, n, model, chain, residue, conformer) })
+        self.edit(|store| ffi::remove_conformer(store, numbers(position)))
     }
 
     /// Removes an atom.
     pub fn remove_atom(&mut self, position: [usize; 5]) -> Result<Edited, Error> {
-        let [model, chain, residue, conformer, atom] = numbers(position);
-        self.edit(|s, n| unsafe { ffi::jubrelti_remove_atom(s, n, model, chain, residue, conformer, atom) })
+        self.edit(|store| ffi::remove_atom(store, numbers(position)))
     }
 
     /// Removes the first chain of a model with this id, compared as given.
     pub fn remove_chain_by_id(&mut self, model: usize, id: impl AsRef<str>) -> Result<Edited, Error> {
-        let id = id.as_ref();
-        self.edit(|s, n| unsafe { ffi::jubrelti_remove_chain_by_id(s, n, model as u64, id.as_ptr(), id.len()) })
+        self.edit(|store| ffi::remove_chain_by_id(store, model as u64, id.as_ref().as_bytes()))
     }
 
     /// Removes the first residue of a chain with this serial number and insertion code, compared as given.
     pub fn remove_residue_by_id(&mut self, chain: [usize; 2], id: (isize, Option<&str>)) -> Result<Edited, Error> {
-        let [model, chain] = numbers(chain);
-        let (flag, code, length) = optional(id.1);
-        self.edit(|s, n| unsafe { ffi::jubrelti_remove_residue_by_id(s, n, model, chain, id.0 as u64, flag, code, length) })
+        self.edit(|store| ffi::remove_residue_by_id(store, numbers(chain), id.0 as u64, optional(id.1)))
     }
 
     /// Removes the first conformer of a residue with this name and alternative location, compared as given.
     pub fn remove_conformer_by_id(&mut self, residue: [usize; 3], id: (&str, Option<&str>)) -> Result<Edited, Error> {
-        let [model, chain, residue] = numbers(residue);
-        let name = id.0;
-        let (flag, location, length) = optional(id.1);
-        self.edit(|s, n| unsafe {
-            ffi::jubrelti_remove_conformer_by_id(s, n, model, chain, residue, name.as_ptr(), name.len(), flag, location, length)
-        })
+        self.edit(|store| ffi::remove_conformer_by_id(store, numbers(residue), id.0.as_bytes(), optional(id.1)))
     }
 
     /// Removes the first atom of a conformer with this serial number.
     pub fn remove_atom_by_serial_number(&mut self, conformer: [usize; 4], serial_number: usize) -> Result<Edited, Error> {
-        let [model, chain, residue, conformer] = numbers(conformer);
-        let serial = serial_number as u64;
-        self.edit(|s, n| unsafe { ffi::jubrelti_remove_atom_by_serial_number(s, n, model, chain, residue, conformer, serial) })
+        self.edit(|store| ffi::remove_atom_by_serial_number(store, numbers(conformer), serial_number as u64))
     }
 
     /// Removes the atoms of a model where the search is true by what the atom alone tells. Terms of the levels above are undecided
     /// then, and an undecided atom stays.
     pub fn remove_atoms_by(&mut self, model: usize, search: impl Into<Search>) -> Result<Edited, Error> {
         let tree = search.into().nodes()?;
-        self.edit(|s, n| unsafe { ffi::jubrelti_remove_atoms_by(s, n, model as u64, tree.as_ptr(), tree.len()) })
+        self.edit(|store| ffi::remove_atoms_by(store, model as u64, &tree))
     }
 
     /// Removes the conformers, residues and chains of a model that hold no atoms.
     pub fn remove_empty(&mut self, model: usize) -> Result<Edited, Error> {
-        self.edit(|s, n| unsafe { ffi::jubrelti_remove_empty(s, n, model as u64) })
+        self.edit(|store| ffi::remove_empty(store, model as u64))
     }
 
     /// Puts the second's chains after the first's, and removes the second. Nothing is merged.
     pub fn join_models(&mut self, first: usize, second: usize) -> Result<Edited, Error> {
-        self.edit(|s, n| unsafe { ffi::jubrelti_join_models(s, n, first as u64, second as u64) })
+        self.edit(|store| ffi::join_models(store, first as u64, second as u64))
     }
 
     /// Puts the second's residues after the first's, and removes the second. Nothing is merged.
     pub fn join_chains(&mut self, first: [usize; 2], second: [usize; 2]) -> Result<Edited, Error> {
-        let ([a, b], [a2, b2]) = (numbers(first), numbers(second));
-        self.edit(|s, n| unsafe { ffi::jubrelti_join_chains(s, n, a, b, a2, b2) })
+        self.edit(|store| ffi::join_chains(store, numbers(first), numbers(second)))
     }
 
     /// Puts the second's conformers after the first's, and removes the second. Nothing is merged.
     pub fn join_residues(&mut self, first: [usize; 3], second: [usize; 3]) -> Result<Edited, Error> {
-        let ([a, b, c], [a2, b2, c2]) = (numbers(first), numbers(second));
-        self.edit(|s, n| unsafe { ffi::jubrelti_join_residues(s, n, a, b, c, a2, b2, c2) })
+        self.edit(|store| ffi::join_residues(store, numbers(first), numbers(second)))
     }
 
     /// Puts the second's atoms after the first's, and removes the second. Nothing is merged.
     pub fn join_conformers(&mut self, first: [usize; 4], second: [usize; 4]) -> Result<Edited, Error> {
-        let ([a, b, c, d], [a2, b2, c2, d2]) = (numbers(first), numbers(second));
-        self.edit(|s, n| unsafe { ffi::jubrelti_join_conformers(s, n, a, b, c, d, a2, b2, c2, d2) })
+        self.edit(|store| ffi::join_conformers(store, numbers(first), numbers(second)))
     }
 }

@@ -1,102 +1,107 @@
+// The library's refusals, which one table lists, and what these bindings refuse themselves.
 use std::fmt;
 
-/// Why a call was refused. A refused call has changed nothing.
-#[derive(Clone, Debug, PartialEq, Eq)]
-#[non_exhaustive]
-pub enum Error {
-    /// 1: the store's length isn't 1 to 1,200,001 words.
-    BadLength,
-    /// 2: the store's layout is broken.
-    BrokenLayout,
-    /// 3: the search has no node, more than 127, or isn't one tree.
-    TreeShape,
-    /// 4: a node of the search has an unknown code or a bad parameter.
-    TreeNode,
-    /// 5: no such position.
-    NoPosition,
-    /// 6: a bad identifier.
-    BadIdentifier,
-    /// 7: a float that isn't finite.
-    BadValue,
-    /// 8: the records needed exceed the store's capacity.
-    NoCapacity,
-    /// 9: a join with itself.
-    JoinWithItself,
-    /// 10: the output is shorter than five words for each hit.
-    ShortOutput,
-    /// 11: the input of the program `find` isn't a store, a tree and the tree's start, or is over 65,536 bytes.
-    BadFile,
-    /// A text of a search that can't be packed. These bindings refuse it themselves, so it has no number.
-    QueryText(String),
+// From the table's lines: the number, the case, its cause and the sentence that says what to do.
+macro_rules! refusals {
+    ($($number:literal $case:ident: $cause:literal, $sentence:literal;)*) => {
+        /// Why a call was refused. A refused call has changed nothing.
+        #[derive(Clone, Debug, PartialEq, Eq)]
+        #[non_exhaustive]
+        pub enum Error {
+            $(#[doc = concat!(stringify!($number), ": ", $cause, ".")] $case,)*
+            /// A number that the table of these bindings doesn't have.
+            Unknown(u64),
+            /// A text of a search that can't be packed.
+            QueryText(String),
+            /// A symbol that is no element's.
+            Element(String),
+            /// The linked library isn't of the version of these bindings. A version is major * 1,000,000 + minor * 1,000 + patch.
+            OtherVersion {
+                /// The version of the library.
+                library: u64,
+                /// The version of this package.
+                package: u64,
+            },
+            /// An edit of a list was refused.
+            Edit {
+                /// The edit's index in its list, from 0. In a [ModelBuilder](crate::ModelBuilder) it is the atom's index.
+                index: usize,
+                /// Why it was refused.
+                cause: Box<Error>,
+            },
+        }
+
+        impl Error {
+            /// The number of the refusal (docs/API.md), of an edit's cause where an edit of a list was refused. What these bindings
+            /// refuse themselves has none.
+            pub fn number(&self) -> Option<u64> {
+                match self {
+                    $(Error::$case => Some($number),)*
+                    Error::Unknown(number) => Some(*number),
+                    Error::Edit { cause, .. } => cause.number(),
+                    Error::QueryText(_) | Error::Element(_) | Error::OtherVersion { .. } => None,
+                }
+            }
+
+            fn refusal(number: u64) -> Error {
+                match number {
+                    $($number => Error::$case,)*
+                    _ => Error::Unknown(number),
+                }
+            }
+        }
+
+        impl fmt::Display for Error {
+            fn fmt(&self, f: &mut fmt::Formatter<'_>) -> fmt::Result {
+                match self {
+                    $(Error::$case => f.write_str($sentence),)*
+                    Error::Unknown(number) => unknown(f, *number),
+                    Error::QueryText(text) => query_text(f, text),
+                    Error::Element(symbol) => element(f, symbol),
+                    Error::OtherVersion { library, package } => other_version(f, *library, *package),
+                    Error::Edit { index, cause } => edit(f, *index, cause),
+                }
+            }
+        }
+    };
 }
+
+include!("refusals.rs");
 
 impl Error {
-    /// The number of the refusal (docs/API.md).
-    pub fn number(&self) -> Option<u64> {
-        match self {
-            Error::BadLength => Some(1),
-            Error::BrokenLayout => Some(2),
-            Error::TreeShape => Some(3),
-            Error::TreeNode => Some(4),
-            Error::NoPosition => Some(5),
-            Error::BadIdentifier => Some(6),
-            Error::BadValue => Some(7),
-            Error::NoCapacity => Some(8),
-            Error::JoinWithItself => Some(9),
-            Error::ShortOutput => Some(10),
-            Error::BadFile => Some(11),
-            Error::QueryText(_) => None,
-        }
-    }
-
     // "A result is 0 with its fields, or one of these."
     pub(crate) fn check(result: u64) -> Result<(), Error> {
-        Err(match result {
-            0 => return Ok(()),
-            1 => Error::BadLength,
-            2 => Error::BrokenLayout,
-            3 => Error::TreeShape,
-            4 => Error::TreeNode,
-            5 => Error::NoPosition,
-            6 => Error::BadIdentifier,
-            7 => Error::BadValue,
-            8 => Error::NoCapacity,
-            9 => Error::JoinWithItself,
-            10 => Error::ShortOutput,
-            11 => Error::BadFile,
-            _ => panic!("refusal {result} is unknown: the linked library is of another version than these bindings"),
-        })
-    }
-}
-
-impl fmt::Display for Error {
-    fn fmt(&self, f: &mut fmt::Formatter<'_>) -> fmt::Result {
-        f.write_str(match self {
-            Error::BadLength => "a store has 1 to 1,200,001 words; give it 12 for each record and one more, for at most 100,000 records",
-            Error::BrokenLayout => "the words aren't a store; open them first, or give back the words of a store as they were",
-            Error::TreeShape => "the search has more than 127 terms and operators; split it into smaller ones",
-            Error::TreeNode => "a node of the search has an unknown code or a bad parameter; build the search from Term",
-            Error::NoPosition => "nothing stands at this position; count from 0, from the model down, in the structure as it is now",
-            Error::BadIdentifier => {
-                "a chain id, insertion code, conformer name, alternative location or atom name is bad; use at most 8 printable \
-                 ASCII characters, and at least one except for an atom name"
-            }
-            Error::BadValue => "a coordinate, the occupancy or the B-factor is infinite or not a number; give a finite one",
-            Error::NoCapacity => {
-                "the store has no room for the records needed; lend it more words, or let it own them and grow, up to 100,000 records"
-            }
-            Error::JoinWithItself => "both positions of the join are the same; give two different ones",
-            Error::ShortOutput => "the output has no room for all hits; lend five words for each",
-            Error::BadFile => "the file isn't a store, a tree and the tree's start, or is over 65,536 bytes; write it so",
-            Error::QueryText(text) => {
-                return write!(
-                    f,
-                    "the text {text:?} of the search can't be packed; use at most 8 printable ASCII characters, and None for a code \
-                     or location that is absent"
-                )
-            }
-        })
+        match result {
+            0 => Ok(()),
+            number => Err(Error::refusal(number)),
+        }
     }
 }
 
 impl std::error::Error for Error {}
+
+fn unknown(f: &mut fmt::Formatter<'_>, number: u64) -> fmt::Result {
+    write!(f, "the library refused the call with {number}, which these bindings don't know; link the library of their version")
+}
+
+fn query_text(f: &mut fmt::Formatter<'_>, text: &str) -> fmt::Result {
+    write!(
+        f,
+        "the text {text:?} of the search can't be packed; use at most 8 printable ASCII characters, and None for a code or location \
+         that is absent"
+    )
+}
+
+fn element(f: &mut fmt::Formatter<'_>, symbol: &str) -> fmt::Result {
+    write!(f, "{symbol:?} is no element's symbol; give one of the 118, as \"C\", or an empty one for a missing element")
+}
+
+fn other_version(f: &mut fmt::Formatter<'_>, library: u64, package: u64) -> fmt::Result {
+    let text = |version: u64| format!("{}.{}.{}", version / 1_000_000, version / 1_000 % 1_000, version % 1_000);
+    let (library, package) = (text(library), text(package));
+    write!(f, "the linked library is version {library}, and these bindings are version {package}; link the library of their version")
+}
+
+fn edit(f: &mut fmt::Formatter<'_>, index: usize, cause: &Error) -> fmt::Result {
+    write!(f, "edit {index} of the list was refused (counted from 0; of a model builder it is atom {index}): {cause}")
+}

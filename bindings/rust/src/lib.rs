@@ -8,12 +8,11 @@
 //! use jubrelti::*;
 //!
 //! # fn main() -> Result<(), Error> {
-//! let mut store = Store::with_records(100)?;
-//! store.add_model(1)?;
-//! let n = NewAtom { serial_number: 1, name: "N", element: Some(Element::N), ..NewAtom::default() };
-//! let ca = NewAtom { serial_number: 2, name: "CA", element: Some(Element::C), ..NewAtom::default() };
-//! store.add_atom(0, n, "A", (7, None), ("ALA", None))?;
-//! store.add_atom(0, ca, "A", (7, None), ("ALA", None))?;
+//! let mut model = ModelBuilder::new(1);
+//! model.add_atom(NewAtom::new(false, 1, "N", 0.0, 0.0, 0.0, 1.0, 12.0, "N", 0)?, "A", (7, None), ("ALA", None));
+//! model.add_atom(NewAtom::new(false, 2, "CA", 1.5, 0.0, 0.0, 1.0, 12.5, "C", 0)?, "A", (7, None), ("ALA", None));
+//! let mut store = Store::new();
+//! store.add_model(model)?;
 //!
 //! let search = Term::ChainId("A".to_owned()) & !Term::Element(Element::N);
 //! for hit in store.find(search)? {
@@ -29,22 +28,56 @@
 //! What `include/jubrelti.h` asks of a caller in C holds here by the types: each pointer comes with the length of a slice that is
 //! borrowed for the call, and one that the call writes is borrowed by `&mut`, so it overlaps no other. No safe code can break this.
 #![warn(missing_docs)]
+#![deny(unsafe_code, clippy::undocumented_unsafe_blocks)]
 
 mod apply;
+mod builder;
 mod edits;
 mod elements;
 mod error;
+#[allow(unsafe_code)]
 mod ffi;
 mod hierarchy;
+mod list;
+mod new_atom;
 mod search;
 mod store;
 mod text;
 mod tree;
 
-pub use apply::{Edits, ListError};
-pub use edits::{Edited, NewAtom};
+pub use apply::Applied;
+pub use builder::ModelBuilder;
+pub use edits::Edited;
 pub use elements::Element;
 pub use error::Error;
 pub use hierarchy::{Atom, Chain, Conformer, Hit, Hits, Model, Residue};
+pub use list::Edits;
+pub use new_atom::NewAtom;
 pub use search::{Ops, Search, Term};
 pub use store::{Store, Words, MAX_RECORDS};
+
+/// The version of these bindings, and of the library that they call: major * 1,000,000 + minor * 1,000 + patch.
+pub const VERSION: u64 = 2_000;
+
+// A library of another version may lay out its words or number its refusals in another way.
+fn check_version() -> Result<(), Error> {
+    of_version(ffi::version())
+}
+
+fn of_version(library: u64) -> Result<(), Error> {
+    match library {
+        VERSION => Ok(()),
+        _ => Err(Error::OtherVersion { library, package: VERSION }),
+    }
+}
+
+#[cfg(test)]
+mod tests {
+    use super::*;
+
+    #[test]
+    fn another_library_is_refused() {
+        assert_eq!(of_version(VERSION), Ok(()));
+        assert_eq!(of_version(1_000), Err(Error::OtherVersion { library: 1_000, package: VERSION }));
+    }
+}

@@ -1,6 +1,6 @@
 // pdbtbx's search.rs without the evaluation, which the library does.
 use crate::Element;
-use std::ops;
+use std::{fmt, ops};
 
 /// Any parameter to use in a [Search] for atoms. Texts are compared as given, with the stored ones.
 #[derive(Clone, Debug, PartialEq)]
@@ -53,16 +53,99 @@ pub enum Term {
 }
 
 /// Search terms joined by `&`, `|`, `^` and `!`, of at most 127 terms and operators.
-#[derive(Clone, Debug, PartialEq)]
-pub enum Search {
-    /// Two searches under an operator.
-    Ops(Ops, Box<Search>, Box<Search>),
-    /// Not.
-    Not(Box<Search>),
-    /// A single search term.
-    Single(Term),
-    /// A known value.
+///
+/// A longer one drops its terms, and every call refuses it with [Error::TreeShape](crate::Error::TreeShape). So searches can be joined in
+/// a loop without end, and two that are too long are equal.
+///
+/// ```
+/// use jubrelti::*;
+///
+/// let search = Term::ChainId("A".to_owned()) & !Term::Element(Element::N);
+/// assert_eq!(search.to_string(), r#"(ChainId("A") & !Element(N))"#);
+/// ```
+#[derive(Clone, PartialEq)]
+pub struct Search {
+    // In postfix order, so that no call goes down a tree; none where they are too many.
+    nodes: Option<Vec<Node>>,
+}
+
+// "1 to 127 nodes in postfix order"
+const MAX_NODES: usize = 127;
+
+#[derive(Clone, PartialEq)]
+pub(crate) enum Node {
+    Term(Term),
     Known(bool),
+    Not,
+    Ops(Ops),
+}
+
+// The cases of pdbtbx's enum as functions, so that searches are built as there.
+#[allow(non_snake_case, clippy::boxed_local)]
+impl Search {
+    /// Two searches under an operator.
+    pub fn Ops(ops: Ops, left: Box<Search>, right: Box<Search>) -> Search {
+        let (Some(mut nodes), Some(right)) = (left.nodes, right.nodes) else { return Search { nodes: None } };
+        nodes.extend(right);
+        Search::under(nodes, Node::Ops(ops))
+    }
+
+    /// Not.
+    pub fn Not(search: Box<Search>) -> Search {
+        let Some(nodes) = search.nodes else { return Search { nodes: None } };
+        Search::under(nodes, Node::Not)
+    }
+
+    /// A single search term.
+    pub fn Single(term: Term) -> Search {
+        Search { nodes: Some(vec![Node::Term(term)]) }
+    }
+
+    /// A known value.
+    pub fn Known(value: bool) -> Search {
+        Search { nodes: Some(vec![Node::Known(value)]) }
+    }
+}
+
+impl Search {
+    // The operands' nodes under an operator.
+    fn under(mut nodes: Vec<Node>, operator: Node) -> Search {
+        nodes.push(operator);
+        Search { nodes: Some(nodes).filter(|n| n.len() <= MAX_NODES) }
+    }
+
+    // In postfix order; none where they are too many.
+    pub(crate) fn postfix(&self) -> Option<&[Node]> {
+        self.nodes.as_deref()
+    }
+}
+
+/// The search as an expression.
+impl fmt::Display for Search {
+    fn fmt(&self, f: &mut fmt::Formatter<'_>) -> fmt::Result {
+        let Some(nodes) = self.postfix() else { return f.write_str("a search of more than 127 terms and operators") };
+        let mut texts: Vec<String> = Vec::new();
+        for node in nodes {
+            let text = match node {
+                Node::Term(term) => format!("{term:?}"),
+                Node::Known(value) => format!("Known({value})"),
+                Node::Not => format!("!{}", texts.pop().unwrap_or_default()),
+                Node::Ops(ops) => {
+                    let right = texts.pop().unwrap_or_default();
+                    format!("({} {ops} {right})", texts.pop().unwrap_or_default())
+                }
+            };
+            texts.push(text);
+        }
+        f.write_str(&texts.concat())
+    }
+}
+
+/// The search as an expression.
+impl fmt::Debug for Search {
+    fn fmt(&self, f: &mut fmt::Formatter<'_>) -> fmt::Result {
+        fmt::Display::fmt(self, f)
+    }
 }
 
 /// All operators on two searches.
@@ -74,6 +157,17 @@ pub enum Ops {
     Or,
     /// `^`
     Xor,
+}
+
+/// The operator, as `&`.
+impl fmt::Display for Ops {
+    fn fmt(&self, f: &mut fmt::Formatter<'_>) -> fmt::Result {
+        f.write_str(match self {
+            Ops::And => "&",
+            Ops::Or => "|",
+            Ops::Xor => "^",
+        })
+    }
 }
 
 impl From<Term> for Search {

@@ -1,8 +1,6 @@
-// Safety of the calls: each pointer comes with the length of its slice, the slices live through the call, and one that is written
-// is borrowed by `&mut` or made for the call, so it overlaps no other. The library reads and writes only inside them, whatever words
-// they hold.
-use crate::ffi;
-use crate::{Error, Hit, Hits, Search};
+use crate::new_atom::optional;
+use crate::{check_version, ffi, Error, Hit, Hits, Search};
+use std::fmt;
 
 // "A record is 12 words"
 pub(crate) const RECORD: usize = 12;
@@ -15,10 +13,10 @@ pub trait Words: AsRef<[u64]> + AsMut<[u64]> + Sized {
     /// Whether an edit that needs more records than the words have room for gets longer ones.
     const GROWS: bool = false;
 
-    /// A copy of a store with room for more records, if there can be one.
+    /// A copy of a store with room for so many records.
     #[doc(hidden)]
-    fn longer(_store: &[u64]) -> Option<Self> {
-        None
+    fn with_room(_store: &[u64], _records: usize) -> Result<Self, Error> {
+        Err(Error::NoCapacity)
     }
 }
 
@@ -26,30 +24,38 @@ impl<T: AsRef<[u64]> + AsMut<[u64]> + ?Sized> Words for &mut T {}
 impl<const N: usize> Words for [u64; N] {}
 impl Words for Box<[u64]> {}
 
-/// These grow: the room is doubled, up to [MAX_RECORDS].
+/// These grow, up to [MAX_RECORDS]: a list of edits makes room for what it adds, and a single edit doubles the room.
 impl Words for Vec<u64> {
     const GROWS: bool = true;
 
-    fn longer(store: &[u64]) -> Option<Self> {
-        let room = (store.len() - 1) / RECORD;
-        let more = (room * 2).clamp(1, MAX_RECORDS);
-        if more == room {
-            return None;
-        }
-        let mut words = vec![0; more * RECORD + 1];
-        copy(store, &mut words).ok()?;
-        Some(words)
+    fn with_room(store: &[u64], records: usize) -> Result<Self, Error> {
+        check_version()?;
+        let mut words = vec![0; records * RECORD + 1];
+        Error::check(ffi::copy(store, &mut words))?;
+        Ok(words)
     }
 }
 
-fn copy(from: &[u64], to: &mut [u64]) -> Result<(), Error> {
-    Error::check(unsafe { ffi::jubrelti_copy(from.as_ptr(), from.len(), to.as_mut_ptr(), to.len()) })
+// How many records a store has room for.
+pub(crate) fn room(store: &[u64]) -> usize {
+    (store.len() - 1) / RECORD
+}
+
+// How many records a store holds: its last word is the index at which they end.
+pub(crate) fn records(store: &[u64]) -> usize {
+    store[store.len() - 1] as usize / RECORD
+}
+
+// The next room of a store that grows, if there can be more.
+pub(crate) fn doubled(room: usize) -> Option<usize> {
+    Some((room * 2).clamp(1, MAX_RECORDS)).filter(|more| *more > room)
 }
 
 /// A structure in a slice of words: models, their chains, residues, conformers and atoms.
 ///
 /// `Store` owns its words, and grows where an edit needs more records than it has room for. `Store<&mut [u64]>` borrows them and stays as
-/// long as it is, and `Store<&[u64]>` can only be searched.
+/// long as it is, and `Store<&[u64]>` can only be searched. A structure is built by a [ModelBuilder](crate::ModelBuilder) or a list
+/// ([Edits](crate::Edits)): single additions check the whole store each time.
 ///
 /// ```
 /// use jubrelti::*;
@@ -66,12 +72,17 @@ fn copy(from: &[u64], to: &mut [u64]) -> Result<(), Error> {
 /// # Ok(())
 /// # }
 /// ```
-#[derive(Clone, Debug)]
+#[derive(Clone)]
 pub struct Store<W = Vec<u64>> {
-    pub(crate) words: W,
+    words: W,
 }
 
 impl Store {
+    /// An empty structure, which grows. This calls nothing of the library: its version is compared when the store first grows.
+    pub fn new() -> Self {
+        Store::of(vec![0])
+    }
+
     /// An empty structure with room for `records` models, chains, residues, conformers and atoms together, before it grows.
     pub fn with_records(records: usize) -> Result<Self, Error> {
         if records > MAX_RECORDS {
@@ -81,26 +92,43 @@ impl Store {
     }
 }
 
+impl Default for Store {
+    fn default() -> Self {
+        Store::new()
+    }
+}
+
 impl<W: Words> Store<W> {
     /// An empty structure in the given words, which are all set to 0. They need 12 for each record and one more.
     pub fn open(words: W) -> Result<Self, Error> {
-        let mut store = Store { words };
-        let words = store.words_mut();
-        Error::check(unsafe { ffi::jubrelti_open(words.as_mut_ptr(), words.len()) })?;
+        check_version()?;
+        let mut store = Store::of(words);
+        Error::check(ffi::open(store.words_mut()))?;
         Ok(store)
     }
 
+    // Every change of the words goes through this call or the next.
     pub(crate) fn words_mut(&mut self) -> &mut [u64] {
         self.words.as_mut()
+    }
+
+    pub(crate) fn replace(&mut self, words: W) {
+        self.words = words;
+    }
+}
+
+impl<W> Store<W> {
+    fn of(words: W) -> Self {
+        Store { words }
     }
 }
 
 impl<W: AsRef<[u64]>> Store<W> {
     /// The structure that the words hold, once their layout is checked.
     pub fn from_words(words: W) -> Result<Self, Error> {
-        let store = Store { words };
-        let words = store.words();
-        Error::check(unsafe { ffi::jubrelti_check(words.as_ptr(), words.len()) })?;
+        check_version()?;
+        let store = Store::of(words);
+        Error::check(ffi::check(store.words()))?;
         Ok(store)
     }
 
@@ -111,8 +139,8 @@ impl<W: AsRef<[u64]>> Store<W> {
 
     /// The same structure in the given words, whatever they hold. They may have room for more records, or for fewer.
     pub fn copy_into<V: Words>(&self, mut words: V) -> Result<Store<V>, Error> {
-        copy(self.words(), words.as_mut())?;
-        Ok(Store { words })
+        Error::check(ffi::copy(self.words(), words.as_mut()))?;
+        Ok(Store::of(words))
     }
 
     /// The atoms where the search isn't false.
@@ -141,7 +169,7 @@ impl<W: AsRef<[u64]>> Store<W> {
         let tree = search.into().nodes()?;
         // Each hit is a record, so this is enough for all.
         let mut out = vec![0; words.len() / RECORD * 5];
-        let found = unsafe { ffi::jubrelti_find(words.as_ptr(), words.len(), tree.as_ptr(), tree.len(), out.as_mut_ptr(), out.len()) };
+        let found = ffi::find(words, &tree, &mut out);
         Error::check(found.result)?;
         Ok(Hits::new(words, out, found.hits as usize))
     }
@@ -152,15 +180,33 @@ impl<W: AsRef<[u64]>> Store<W> {
     /// serial numbers rise.
     pub fn binary_find_atom(&self, serial_number: usize, alternative_location: Option<&str>) -> Result<Option<Hit<'_>>, Error> {
         let words = self.words();
-        let (flag, location, length) = optional(alternative_location);
-        let answer = unsafe { ffi::jubrelti_binary_find_atom(words.as_ptr(), words.len(), serial_number as u64, flag, location, length) };
+        let answer = ffi::binary_find_atom(words, serial_number as u64, optional(alternative_location));
         Error::check(answer.result)?;
         Ok((answer.found == 1).then(|| Hit::new(words, answer.at)))
     }
+
+    // How many records of each kind there are, from the models down: "kind (word 0)", 1 to 5.
+    pub(crate) fn counts(&self) -> [usize; 5] {
+        let words = self.words();
+        let mut counts = [0; 5];
+        for record in words.chunks_exact(RECORD).take(records(words)) {
+            counts[record[0] as usize - 1] += 1;
+        }
+        counts
+    }
 }
 
-// "An optional argument has a flag, 0 absent or 1 present"
-pub(crate) fn optional(text: Option<&str>) -> (u64, ffi::Bytes, usize) {
-    let bytes = text.unwrap_or("");
-    (text.is_some() as u64, bytes.as_ptr(), bytes.len())
+/// How much there is of each kind, and how many records out of those that there is room for; the words can be a million.
+impl<W: AsRef<[u64]>> fmt::Debug for Store<W> {
+    fn fmt(&self, f: &mut fmt::Formatter<'_>) -> fmt::Result {
+        let [models, chains, residues, conformers, atoms] = self.counts();
+        f.debug_struct("Store")
+            .field("models", &models)
+            .field("chains", &chains)
+            .field("residues", &residues)
+            .field("conformers", &conformers)
+            .field("atoms", &atoms)
+            .field("records", &format_args!("{} of {}", records(self.words()), room(self.words())))
+            .finish()
+    }
 }

@@ -1,41 +1,29 @@
 // A search as the library's tree: three words for each node, in postfix order (docs/FORMATS.md).
+use crate::search::Node;
 use crate::text::{pack, pack_optional};
 use crate::{Error, Ops, Search, Term};
 
 impl Search {
-    /// The search as words for the C interface, or [Error::QueryText] for a text that can't be packed.
+    /// The search as words for the C interface. It gives [Error::TreeShape] for a search that is too long, and [Error::QueryText] for a
+    /// text that can't be packed.
     pub fn nodes(&self) -> Result<Vec<u64>, Error> {
-        let mut nodes = Vec::new();
-        self.push(&mut nodes)?;
-        Ok(nodes)
-    }
-
-    fn push(&self, nodes: &mut Vec<u64>) -> Result<(), Error> {
-        let node = match self {
-            Search::Single(term) => node(term)?,
-            Search::Known(value) => [27 + *value as u64, 0, 0],
-            Search::Not(search) => {
-                search.push(nodes)?;
-                [26, 0, 0]
-            }
-            Search::Ops(ops, left, right) => {
-                left.push(nodes)?;
-                right.push(nodes)?;
-                let code = match ops {
-                    Ops::And => 23,
-                    Ops::Or => 24,
-                    Ops::Xor => 25,
-                };
-                [code, 0, 0]
-            }
-        };
-        nodes.extend(node);
-        Ok(())
+        let mut words = Vec::new();
+        for node in self.postfix().ok_or(Error::TreeShape)? {
+            words.extend(match node {
+                Node::Term(term) => self::term(term)?,
+                Node::Known(value) => [27 + *value as u64, 0, 0],
+                Node::Not => [26, 0, 0],
+                Node::Ops(Ops::And) => [23, 0, 0],
+                Node::Ops(Ops::Or) => [24, 0, 0],
+                Node::Ops(Ops::Xor) => [25, 0, 0],
+            });
+        }
+        Ok(words)
     }
 }
 
 // "Codes 1..22 are `Term`'s cases in source order", "p and q are the case's values in its order; unused ones are 0."
-fn node(term: &Term) -> Result<[u64; 3], Error> {
+fn term(term: &Term) -> Result<[u64; 3], Error> {
     Ok(match term {
         Term::ModelSerialNumber(n) => [1, *n as u64, 0],
         Term::ModelSerialNumberRange(low, high) => [2, *low as u64, *high as u64],

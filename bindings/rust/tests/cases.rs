@@ -48,8 +48,8 @@ fn found(store: &Store, search: impl Into<Search>) -> Vec<usize> {
 fn edits_build_s() {
     let mut store = Store::with_records(6).unwrap();
     store.add_model(1).unwrap();
-    let n = NewAtom { name: "N", element: Some(Element::N), ..NewAtom::default() };
-    let unknown = NewAtom { name: "XX", ..NewAtom::default() };
+    let n = NewAtom { name: "N", element: Some(Element::N), occupancy: 0.0, ..NewAtom::default() };
+    let unknown = NewAtom { name: "XX", occupancy: 0.0, ..NewAtom::default() };
     store.add_atom(0, n, "A", (7, None), ("ALA", None)).unwrap();
     store.add_atom(0, unknown, "A", (7, None), ("ALA", None)).unwrap();
     assert_eq!(store.words(), words("ALA"));

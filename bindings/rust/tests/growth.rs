@@ -43,18 +43,97 @@ fn edit_by_edit() {
     assert_eq!(store.find(Search::Known(true)).unwrap().len(), ATOMS);
 }
 
-#[test]
-fn by_a_list() {
+// A model and the atoms, as a list.
+fn list() -> Edits {
     let mut edits = Edits::new();
     edits.add_model(1);
     for serial in 0..ATOMS {
         let (chain, residue) = place(serial);
         edits.add_atom(0, atom(serial), chain, residue, ("GLY", None));
     }
-    let mut store = Store::with_records(3).unwrap();
-    let answers = store.apply(&edits).unwrap();
-    assert!(answers.iter().all(Result::is_ok));
+    edits
+}
+
+#[test]
+fn by_a_list() {
+    let edits = list();
+    for room in [0, 3, 100] {
+        let mut store = Store::with_records(room).unwrap();
+        store.apply_all(&edits).unwrap();
+        assert_eq!(records(&store), records(&roomy()));
+        // The list knows what it adds, and room is made once.
+        assert_eq!(store.words().len(), 4_805 * 12 + 1);
+        // A store doesn't get shorter.
+        store.apply_all(Edits::new().remove_chain([0, 0])).unwrap();
+        assert_eq!(store.words().len(), 4_805 * 12 + 1);
+    }
+    let mut larger = Store::with_records(6_000).unwrap();
+    assert_eq!(larger.apply(&edits).unwrap().refused().count(), 0);
+    assert_eq!(larger.words(), roomy().words());
+}
+
+#[test]
+fn by_a_builder() {
+    let mut model = ModelBuilder::new(1);
+    for serial in 0..ATOMS {
+        let (chain, residue) = place(serial);
+        model.add_atom(atom(serial), chain, residue, ("GLY", None));
+    }
+    let mut store = Store::new();
+    assert_eq!(store.add_model(model), Ok(Edited { found: true, removed: 0 }));
     assert_eq!(records(&store), records(&roomy()));
+}
+
+// How many records a list makes room for.
+fn room(edits: &Edits) -> usize {
+    let mut store = Store::new();
+    store.apply_all(edits).unwrap();
+    store.words().len() / 12
+}
+
+#[test]
+fn what_a_list_makes_room_for() {
+    let mut edits = Edits::new();
+    let mut add = |model, chain, residue, conformer| {
+        edits.add_atom(model, atom(1), chain, residue, conformer);
+        edits.clone()
+    };
+    assert_eq!(room(Edits::new().add_model(1).add_model(2)), 2);
+    let two_models = |edits: &Edits| {
+        let mut store = Store::new();
+        store.apply_all(Edits::new().add_model(1).add_model(2)).unwrap();
+        store.apply_all(edits).unwrap();
+        store.words().len() / 12 - 2
+    };
+    assert_eq!(two_models(&add(0, "A", (1, None), ("GLY", None))), 4);
+    assert_eq!(two_models(&add(0, "A", (1, None), ("GLY", None))), 5);
+    assert_eq!(two_models(&add(0, "A", (1, None), ("ALA", None))), 7);
+    assert_eq!(two_models(&add(0, "A", (1, None), ("ALA", Some("B")))), 9);
+    assert_eq!(two_models(&add(0, "A", (1, Some("B")), ("ALA", Some("B")))), 12);
+    assert_eq!(two_models(&add(0, "A", (2, Some("B")), ("ALA", Some("B")))), 15);
+    assert_eq!(two_models(&add(0, "B", (2, Some("B")), ("ALA", Some("B")))), 19);
+    assert_eq!(two_models(&add(1, "B", (2, Some("B")), ("ALA", Some("B")))), 23);
+    // Another edit between may have removed what the next addition would go to.
+    edits.remove_empty(0);
+    edits.add_atom(1, atom(1), "B", (2, Some("B")), ("ALA", Some("B")));
+    assert_eq!(two_models(&edits), 27);
+}
+
+// A code in small letters is stored in capitals, so each atom makes a residue that the list doesn't count on.
+#[test]
+fn more_records_than_the_list_counts_on() {
+    let mut edits = Edits::new();
+    edits.add_model(1);
+    for serial in 0..100 {
+        edits.add_atom(0, atom(serial), "A", (1, Some("a")), ("GLY", None));
+    }
+    let mut store = Store::new();
+    assert_eq!(store.apply(&edits).unwrap().refused().count(), 0);
+    assert_eq!(records(&store).len(), (2 + 300) * 12);
+    assert_eq!(store.words().len(), 104 * 4 * 12 + 1);
+    let mut again = Store::new();
+    again.apply_all(&edits).unwrap();
+    assert_eq!(again.words(), store.words());
 }
 
 #[test]

@@ -19,7 +19,7 @@ fn each_edit_as_by_itself() {
     edits.remove_atoms_by(0, Term::Hetero).unwrap();
     edits.remove_conformer([0; 4]).remove_residue([0; 3]).remove_chain([0; 2]);
 
-    let mut one_by_one = Store::with_records(20).unwrap();
+    let mut one_by_one = Store::with_records(30).unwrap();
     let s = &mut one_by_one;
     let mut answers = vec![s.add_model(1), s.add_model(2)];
     for (serial, chain, residue, location) in [(1, "A", 1, None), (2, "A", 2, Some("a")), (3, " B", 1, Some("B")), (4, "B", 1, None)] {
@@ -44,8 +44,8 @@ fn each_edit_as_by_itself() {
     ]);
     assert!(answers.iter().any(|a| a.is_err()) && answers.iter().any(|a| a.is_ok()));
 
-    let mut as_one = Store::with_records(20).unwrap();
-    assert_eq!(as_one.apply(&edits), Ok(answers));
+    let mut as_one = Store::with_records(30).unwrap();
+    assert_eq!(as_one.apply(&edits).unwrap().answers(), answers);
     assert_eq!(as_one.words(), one_by_one.words());
 }
 
@@ -55,6 +55,76 @@ fn refused_as_a_whole() {
     edits.add_model(1).remove_chain_by_id(0, "A".repeat(2_000));
     let mut store = Store::with_records(20).unwrap();
     let before = store.words().to_vec();
-    assert_eq!(store.apply(&edits), Err(ListError::BadList));
+    assert_eq!(store.apply(&edits), Err(Error::BadList));
+    assert_eq!(store.apply_all(&edits), Err(Error::BadList));
     assert_eq!(store.words(), before);
+}
+
+const EDITED: Edited = Edited { found: true, removed: 0 };
+
+// A model with an atom, then an atom that is refused, then an atom; refused are edits 2 and 4.
+fn with_refusals() -> Edits {
+    let mut edits = Edits::new();
+    edits.add_model(1).add_atom(0, atom(1), "A", (1, None), ("GLY", None));
+    edits.add_atom(0, NewAtom { x: f64::NAN, ..atom(2) }, "A", (1, None), ("GLY", None));
+    edits.add_atom(0, atom(3), "A", (1, None), ("GLY", None)).remove_chain([0, 9]);
+    edits
+}
+
+fn of_edit(index: usize, cause: Error) -> Error {
+    Error::Edit { index, cause: Box::new(cause) }
+}
+
+// A store without room for more than its model.
+fn one_model() -> Store {
+    let mut store = Store::with_records(1).unwrap();
+    store.add_model(7).unwrap();
+    store
+}
+
+#[test]
+fn a_refused_edit_shows() {
+    let mut store = Store::with_records(20).unwrap();
+    let applied = store.apply(&with_refusals()).unwrap();
+    assert_eq!(applied.refused().collect::<Vec<_>>(), [(2, &Error::BadValue), (4, &Error::NoPosition)]);
+    assert_eq!(applied.clone().into_iter().filter(Result::is_ok).count(), 3);
+    assert_eq!(applied.all(), Err(of_edit(2, Error::BadValue)));
+    // The edits around the refused ones were made.
+    assert_eq!(store.find(Search::Known(true)).unwrap().len(), 2);
+    assert_eq!(store.apply(Edits::new().remove_empty(0)).unwrap().all(), Ok(vec![EDITED]));
+}
+
+#[test]
+fn all_or_none_in_a_store_that_grows() {
+    for mut store in [Store::new(), one_model(), Store::with_records(100).unwrap()] {
+        let before = store.words().to_vec();
+        let mut edits = Edits::new();
+        edits.add_model(1);
+        // Codes in small letters make a residue each, so the room made first is too small.
+        for serial in 0..50 {
+            edits.add_atom(0, atom(serial), "A", (1, Some("a")), ("GLY", None));
+        }
+        edits.add_atom(0, atom(50), "", (1, None), ("GLY", None)).remove_chain([99, 0]);
+        assert_eq!(store.apply_all(&edits), Err(of_edit(51, Error::BadIdentifier)));
+        assert_eq!(store.words(), before);
+    }
+}
+
+#[test]
+fn all_or_none_in_lent_words() {
+    let mut words = [7; 20 * 12 + 1];
+    let mut store = Store::open(&mut words[..]).unwrap();
+    store.add_model(7).unwrap();
+    let before = store.words().to_vec();
+    assert_eq!(store.apply_all(&with_refusals()), Err(of_edit(2, Error::BadValue)));
+    assert_eq!(store.words(), before);
+
+    let mut edits = Edits::new();
+    edits.remove_empty(0).add_atom(0, atom(1), "A", (1, None), ("GLY", None));
+    for serial in 0..16 {
+        edits.add_model(serial);
+    }
+    assert_eq!(store.apply_all(&edits), Err(of_edit(17, Error::NoCapacity)));
+    assert_eq!(store.words(), before);
+    assert_eq!(store.apply_all(Edits::new().add_model(1).join_models(0, 1)), Ok(vec![EDITED; 2]));
 }

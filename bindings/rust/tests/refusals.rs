@@ -63,7 +63,8 @@ fn room() {
     words[1_200_000] = 1_200_000;
     let mut full = Store::from_words(words).unwrap();
     assert_eq!(full.add_model(2), Err(Error::NoCapacity));
-    assert_eq!(full.apply(Edits::new().remove_empty(99_999).add_model(2)).unwrap()[1], Err(Error::NoCapacity));
+    let applied = full.apply(Edits::new().remove_empty(99_999).add_model(2)).unwrap();
+    assert_eq!(applied.answers()[1], Err(Error::NoCapacity));
 }
 
 #[test]
@@ -78,26 +79,68 @@ fn searches() {
     assert_eq!(refused(|s| s.remove_atoms_by(0, long())), Error::QueryText("123456789".to_owned()));
 }
 
+// Nothing is left of the growing that was tried.
+#[test]
+fn no_room_at_the_most_records() {
+    let mut words = vec![0; 99_998 * 12 + 1];
+    words[..99_997 * 12].iter_mut().step_by(12).for_each(|word| *word = 1);
+    words[99_998 * 12] = 99_997 * 12;
+    let mut store = Store::from_words(words).unwrap();
+    let before = store.words().to_vec();
+    assert_eq!(store.add_atom(0, NewAtom::default(), "A", (1, None), ("GLY", None)), Err(Error::NoCapacity));
+    assert_eq!(store.words(), before);
+    let mut model = ModelBuilder::new(1);
+    model.add_atom(NewAtom::default(), "A", (1, None), ("GLY", None));
+    assert_eq!(store.add_model(model), Err(of_edit(0, Error::NoCapacity)));
+    assert_eq!(store.words(), before);
+    store.add_model(1).unwrap();
+    store.add_model(1).unwrap();
+    assert_eq!(store.words().len(), 1_200_001);
+}
+
+fn of_edit(index: usize, cause: Error) -> Error {
+    Error::Edit { index, cause: Box::new(cause) }
+}
+
 #[test]
 fn numbers_and_sentences() {
     let refusals = [
-        Error::BadLength,
-        Error::BrokenLayout,
-        Error::TreeShape,
-        Error::TreeNode,
-        Error::NoPosition,
-        Error::BadIdentifier,
-        Error::BadValue,
-        Error::NoCapacity,
-        Error::JoinWithItself,
-        Error::ShortOutput,
-        Error::BadFile,
+        (1, Error::BadLength),
+        (2, Error::BrokenLayout),
+        (3, Error::TreeShape),
+        (4, Error::TreeNode),
+        (5, Error::NoPosition),
+        (6, Error::BadIdentifier),
+        (7, Error::BadValue),
+        (8, Error::NoCapacity),
+        (9, Error::JoinWithItself),
+        (10, Error::ShortOutput),
+        (11, Error::BadFile),
+        (22, Error::BadList),
+        (23, Error::ShortAnswers),
+        (99, Error::Unknown(99)),
     ];
-    for (number, error) in (1..).zip(refusals) {
+    for (number, error) in refusals {
         assert_eq!(error.number(), Some(number));
         assert!(error.to_string().contains("; "), "{error} doesn't say what to do");
     }
+}
+
+#[test]
+fn what_the_bindings_refuse() {
     let text = Error::QueryText("C\0".to_owned());
-    assert_eq!(text.number(), None);
     assert!(text.to_string().starts_with("the text \"C\\0\" of the search can't be packed; "));
+    let element = NewAtom::new(false, 1, "CA", 0.0, 0.0, 0.0, 1.0, 0.0, " Xx ", 0).unwrap_err();
+    assert_eq!(element, Error::Element("Xx".to_owned()));
+    assert!(element.to_string().starts_with("\"Xx\" is no element's symbol; "));
+    let version = Error::OtherVersion { library: 1_000, package: 12_034_567 };
+    assert!(version.to_string().starts_with("the linked library is version 0.1.0, and these bindings are version 12.34.567; "));
+    assert_eq!((text.number(), element.number(), version.number()), (None, None, None));
+}
+
+#[test]
+fn an_edit_of_a_list() {
+    let error = of_edit(17, Error::BadValue);
+    assert_eq!(error.number(), Some(7));
+    assert!(error.to_string().starts_with("edit 17 of the list was refused (counted from 0; of a model builder it is atom 17): a coord"));
 }

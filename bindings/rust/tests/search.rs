@@ -118,3 +118,51 @@ fn elements() {
     assert_eq!((Element::from_symbol("fe"), Element::from_symbol("Xx")), (Some(Element::Fe), None));
     assert_eq!(Element::Og.to_string(), "Og");
 }
+
+#[test]
+fn as_an_expression() {
+    let search = Term::ChainId(text("A")) & !Term::Element(Element::N);
+    assert_eq!(search.to_string(), r#"(ChainId("A") & !Element(N))"#);
+    let search = !(Term::ResidueId(-1, Some(text("B"))) | Search::Known(true) ^ !!Term::BFactorRange(0.5, f64::INFINITY));
+    assert_eq!(format!("{search:?}"), r#"!(ResidueId(-1, Some("B")) | (Known(true) ^ !!BFactorRange(0.5, inf)))"#);
+    assert_eq!(Search::from(Term::Backbone).to_string(), "Backbone");
+}
+
+// The longest search is taken, and one that is longer by a node is refused.
+#[test]
+fn the_most_nodes() {
+    let joined = |terms: usize| (1..terms).fold(Search::Known(true), |search, n| search & serial(n));
+    assert_eq!(codes(joined(64)).len(), 127);
+    assert!(joined(64).to_string().ends_with("& AtomSerialNumber(63))"));
+    assert_eq!((!joined(64)).nodes(), Err(Error::TreeShape));
+    assert_eq!(joined(65).nodes(), Err(Error::TreeShape));
+    assert_eq!((joined(32) & joined(32)).nodes().unwrap().len(), 127 * 3);
+    assert_eq!((joined(32) & joined(33)).nodes(), Err(Error::TreeShape));
+}
+
+// Everything that can be done with a search that is nested a million deep.
+fn use_up(search: Search) {
+    let copy = search.clone();
+    assert_eq!(copy, search);
+    assert_ne!(copy, Search::Known(true));
+    assert_eq!(format!("{copy:?}"), format!("{search}"));
+    assert_eq!(search.to_string(), "a search of more than 127 terms and operators");
+    drop(copy);
+    let mut store = Store::new();
+    assert_eq!(store.find(search.clone()).unwrap_err(), Error::TreeShape);
+    assert_eq!(store.remove_atoms_by(0, search.clone()), Err(Error::TreeShape));
+    assert_eq!(Edits::new().remove_atoms_by(0, search).unwrap_err(), Error::TreeShape);
+}
+
+#[test]
+fn nested_a_million_deep() {
+    const DEEP: usize = 1_000_000;
+    let on_a_small_stack = std::thread::Builder::new().stack_size(64 * 1024);
+    let thread = on_a_small_stack.spawn(|| {
+        use_up((0..DEEP).fold(Search::Known(true), |search, _| !search));
+        use_up((0..DEEP).fold(Search::Known(true), |search, n| search & serial(n)));
+        use_up((0..DEEP).fold(Search::Known(true), |search, n| serial(n) & search));
+        use_up((0..DEEP).fold(Search::Known(true), |search, n| ops(Ops::Xor, serial(n), Search::Not(Box::new(search)))));
+    });
+    thread.unwrap().join().unwrap();
+}
