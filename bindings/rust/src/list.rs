@@ -82,6 +82,7 @@ impl Edits {
     // as many words"; "a text as given, a byte to a word"
     fn push(&mut self, code: u64, numbers: &[u64], parts: &[Part]) -> &mut Self {
         let behind = numbers.len() + parts.iter().map(|part| 1 + part.len()).sum::<usize>();
+        self.words.reserve(2 + behind);
         self.words.extend([code, behind as u64]);
         self.words.extend(numbers);
         for part in parts {
@@ -97,23 +98,32 @@ impl Edits {
     }
 
     fn push_addition(&mut self, new: &ffi::Addition) -> &mut Self {
-        let (before, at) = (self.addition, self.words.len());
+        self.records += 1 + self.new_parents(new);
+        let at = self.words.len();
         let ffi::NewAtom { serial, x, y, z, occupancy, b_factor, element, charge, hetero } = new.values;
         let place = [new.model, new.residue, new.code.flag, new.location.flag];
         let values = [serial, x, y, z, occupancy, b_factor, element, charge, hetero];
         let parts = [new.chain, new.code.text, new.conformer, new.location.text, new.name].map(Part::Text);
         self.push(ADD_ATOM, &[place.as_slice(), &values].concat(), &parts);
-        self.records += 1 + self.new_parents(before, at);
         self.addition = Some(at);
         self
     }
 
     // How many of its chain, residue and conformer an addition makes: those from the outermost on whose ids the addition before it doesn't
     // have, and all three where another edit stands before it.
-    fn new_parents(&self, before: Option<usize>, at: usize) -> usize {
-        let new = ids(&self.words[at..]);
-        let same = |before: usize| ids(&self.words[before..]).iter().zip(new).take_while(|(a, b)| *a == b).count();
-        3 - before.map_or(0, same)
+    fn new_parents(&self, new: &ffi::Addition) -> usize {
+        let Some(at) = self.addition else { return 3 };
+        let call = &self.words[at..];
+        let [chain, code, conformer, location] = parents(call);
+        if call[2] != new.model || !same(chain, new.chain) {
+            3
+        } else if call[3..5] != [new.residue, new.code.flag] || !same(code, new.code.text) {
+            2
+        } else if call[5] != new.location.flag || !same(conformer, new.conformer) || !same(location, new.location.text) {
+            1
+        } else {
+            0
+        }
     }
 
     /// See [Store::add_model](crate::Store::add_model); the model is added without atoms.
@@ -219,15 +229,17 @@ impl fmt::Debug for Edits {
     }
 }
 
-// The ids in the words of an addition, from the outermost: of its model and chain, of its residue, and of its conformer, each as numbers
-// and texts. Two numbers of the header and thirteen of the atom stand before the texts.
-fn ids(call: &[u64]) -> [[&[u64]; 3]; 3] {
+// The texts of an addition's parents in its words: chain, insertion code, conformer and location. The header's two numbers and the
+// atom's thirteen stand before them.
+fn parents(call: &[u64]) -> [&[u64]; 4] {
     let mut parts = &call[15..];
-    let mut part = || {
-        let (this, rest) = parts.split_at(1 + parts[0] as usize);
+    [(); 4].map(|()| {
+        let (text, rest) = parts[1..].split_at(parts[0] as usize);
         parts = rest;
-        this
-    };
-    let (chain, code, conformer, location) = (part(), part(), part(), part());
-    [[&call[2..3], chain, &[]], [&call[3..5], code, &[]], [&call[5..6], conformer, location]]
+        text
+    })
+}
+
+fn same(words: &[u64], text: &[u8]) -> bool {
+    words.len() == text.len() && words.iter().zip(text).all(|(word, byte)| *word == u64::from(*byte))
 }
