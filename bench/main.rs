@@ -1,5 +1,6 @@
 // bench NAME: the tables and the plot, each with the port and the crate in one run.
 mod additions;
+mod building;
 mod chart;
 mod check;
 mod edits;
@@ -17,8 +18,14 @@ mod structure;
 
 fn main() {
     let name = std::env::args().nth(1).expect("a name");
-    let parts: [(&str, fn()); 5] =
-        [("check", check::table), ("find", find::table), ("edits", edits::table), ("additions", additions::table), ("plot", plot::draw)];
+    let parts: [(&str, fn()); 6] = [
+        ("check", check::table),
+        ("find", find::table),
+        ("edits", edits::table),
+        ("additions", additions::table),
+        ("building", building::table),
+        ("plot", plot::draw),
+    ];
     for (part, run) in parts.iter().filter(|(part, _)| name == "all" || name == *part) {
         println!("== {part}");
         run();
