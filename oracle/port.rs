@@ -57,8 +57,9 @@ pub fn edit(store: &mut [u64], call: &Call) -> Edit {
     match call {
         Call::AddModel(serial) => ffi::add_model(store, *serial),
         Call::AddAtom { model, chain, residue, code, conformer, location, name, values } => {
-            let (code, location) = (code.lent(), location.lent());
-            ffi::add_atom(store, &ffi::Addition { model: *model, chain, residue: *residue, code, conformer, location, name, values: *values })
+            let (code, location, values) = (code.lent(), location.lent(), *values);
+            let new = ffi::Addition { model: *model, chain, residue: *residue, code, conformer, location, name, values };
+            ffi::add_atom(store, &new)
         }
         Call::RemoveChain(p) => ffi::remove_chain(store, *p),
         Call::RemoveResidue(p) => ffi::remove_residue(store, *p),

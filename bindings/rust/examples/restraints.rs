@@ -23,21 +23,10 @@ const GLYCINE: [Line; 4] = [
 const FRAGMENT: [Line; 3] =
     [(11, "C1", "C", [6.1, -3.0, 2.2], 35.0), (12, "O1", "O", [7.3, -3.1, 2.4], 36.0), (13, "X1", "", [5.2, -3.9, 2.0], 38.0)];
 
-fn add(store: &mut Store, lines: &[Line], chain: &str, residue: isize, name: &str) -> Result<(), Error> {
+fn add(model: &mut ModelBuilder, lines: &[Line], chain: &str, residue: isize, name: &str) -> Result<(), Error> {
     for &(serial_number, atom, symbol, [x, y, z], b_factor) in lines {
-        let new_atom = NewAtom {
-            serial_number,
-            name: atom,
-            x,
-            y,
-            z,
-            occupancy: 1.0,
-            b_factor,
-            element: Element::from_symbol(symbol),
-            charge: 0,
-            hetero: name == "LIG",
-        };
-        store.add_atom(0, new_atom, chain, (residue, None), (name, None))?;
+        let new_atom = NewAtom::new(name == "LIG", serial_number, atom, x, y, z, 1.0, b_factor, symbol, 0)?;
+        model.add_atom(new_atom, chain, (residue, None), (name, None));
     }
     Ok(())
 }
@@ -61,11 +50,12 @@ fn pick(store: &Store, title: &str, search: impl Into<Search>) -> Result<(), Err
 }
 
 fn main() -> Result<(), Error> {
-    let mut store = Store::with_records(100)?;
-    store.add_model(1)?;
-    add(&mut store, &SERINE, "A", 1, "SER")?;
-    add(&mut store, &GLYCINE, "A", 2, "GLY")?;
-    add(&mut store, &FRAGMENT, "B", 1, "LIG")?;
+    let mut model = ModelBuilder::new(1);
+    add(&mut model, &SERINE, "A", 1, "SER")?;
+    add(&mut model, &GLYCINE, "A", 2, "GLY")?;
+    add(&mut model, &FRAGMENT, "B", 1, "LIG")?;
+    let mut store = Store::new();
+    store.add_model(model)?;
 
     pick(&store, "main chain, for bonds and planes", Term::Backbone & !Term::Hetero)?;
     pick(&store, "side chains, for rotamers", Term::SideChain & Term::ChainId("A".to_owned()))?;
@@ -74,8 +64,11 @@ fn main() -> Result<(), Error> {
     let ligand = Term::ConformerName("LIG".to_owned());
     pick(&store, "ligand without hydrogen, for contacts", ligand & !Term::Element(Element::H))?;
 
-    let edited = store.remove_atoms_by(0, Term::BFactorRange(40.0, f64::INFINITY))?;
-    println!("removed {} atom above B 40", edited.removed);
+    // Both edits or none: the loose atoms go, and what holds no atoms then.
+    let mut edits = Edits::new();
+    edits.remove_atoms_by(0, Term::BFactorRange(40.0, f64::INFINITY))?.remove_empty(0);
+    let edited = store.apply_all(&edits)?;
+    println!("removed {} atom above B 40", edited[0].removed);
     let left = store.find(Search::Known(true))?.len();
     println!("{left} atoms left");
     Ok(())

@@ -113,8 +113,7 @@ impl<W: Words> Store<W> {
     // The list's count of records can be too low: a code in small letters is stored in capitals, so the next atom with it doesn't find its
     // residue and makes another. A later edit may have gone by what one without room did not add, so all of them are made again.
     fn apply_to_copy(&self, edits: &Edits) -> Result<(W, Applied), Error> {
-        let now = room(self.words());
-        let mut needed = (records(self.words()) + edits.records()).min(MAX_RECORDS).max(now);
+        let mut needed = (records(self.words()) + edits.records()).clamp(room(self.words()), MAX_RECORDS);
         loop {
             let mut words = W::with_room(self.words(), needed)?;
             let applied = apply_once(words.as_mut(), edits)?;

@@ -3,7 +3,7 @@ use crate::{ffi, Edits, Error, NewAtom, Store, Words};
 
 /// A model to be added with all its atoms, by [Store::add_model]. Its calls are those of pdbtbx's `Model`.
 ///
-/// The store is checked once for the whole model, where [Store::add_atom] checks it for each atom: 50,000 atoms one by one take 33 s.
+/// The store is checked once for the whole model, where [Store::add_atom] checks it for each atom: 50,000 atoms one by one take some 33 s.
 /// Additions are fastest chain by chain. Nothing is checked before the model is added, and then all its atoms are added or none.
 ///
 /// ```

@@ -13,7 +13,7 @@ pub trait Words: AsRef<[u64]> + AsMut<[u64]> + Sized {
     /// Whether an edit that needs more records than the words have room for gets longer ones.
     const GROWS: bool = false;
 
-    /// A copy of a store with room for so many records.
+    /// A copy of a store with room for so many records, and no less than it has.
     #[doc(hidden)]
     fn with_room(_store: &[u64], _records: usize) -> Result<Self, Error> {
         Err(Error::NoCapacity)
@@ -29,6 +29,9 @@ impl Words for Vec<u64> {
     const GROWS: bool = true;
 
     fn with_room(store: &[u64], records: usize) -> Result<Self, Error> {
+        if records <= room(store) {
+            return Ok(store.to_vec());
+        }
         check_version()?;
         let mut words = vec![0; records * RECORD + 1];
         Error::check(ffi::copy(store, &mut words))?;

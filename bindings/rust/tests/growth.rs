@@ -144,6 +144,25 @@ fn refusals_do_not_grow() {
     assert_eq!(store.words().len(), 13);
 }
 
+// Words that aren't a whole number of records stay as many where no room is made.
+#[test]
+fn odd_lengths() {
+    let mut store = Store::open(vec![0; 70]).unwrap();
+    store.apply_all(Edits::new().add_model(1).add_atom(0, atom(1), "A", (1, None), ("GLY", None))).unwrap();
+    assert_eq!(store.words().len(), 70);
+    assert_eq!(store.apply(Edits::new().remove_empty(0)).unwrap().refused().count(), 0);
+    assert_eq!(store.words().len(), 70);
+    store.apply_all(Edits::new().add_model(2)).unwrap();
+    assert_eq!(store.words().len(), 6 * 12 + 1);
+}
+
+#[test]
+fn no_edits() {
+    let mut store = Store::new();
+    assert_eq!(store.apply_all(&Edits::new()), Ok(Vec::new()));
+    assert_eq!(store.words(), [0]);
+}
+
 #[test]
 fn copies() {
     let mut store = Store::with_records(5).unwrap();
