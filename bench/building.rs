@@ -1,4 +1,4 @@
-// Structures built through the Rust package and through the crate, in one run: time per atom, from the atom's values to the whole structure.
+// Structures built in file order through the Rust package and through the crate, in one run: time per atom, that of making it included.
 use super::store::{self, AtomAt};
 use super::structure;
 use jubrelti::{Edits, ModelBuilder, NewAtom, Search, Store};

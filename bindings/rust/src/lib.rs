@@ -80,4 +80,15 @@ mod tests {
         assert_eq!(of_version(VERSION), Ok(()));
         assert_eq!(of_version(1_000), Err(Error::OtherVersion { library: 1_000, package: VERSION }));
     }
+
+    #[test]
+    fn each_number_and_back() {
+        assert_eq!(Error::check(0), Ok(()));
+        for number in 1..100 {
+            let refusal = Error::check(number).unwrap_err();
+            assert_eq!(refusal.number(), Some(number));
+            let known = number <= 11 || [22, 23].contains(&number);
+            assert_eq!(refusal == Error::Unknown(number), !known);
+        }
+    }
 }

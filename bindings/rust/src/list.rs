@@ -110,16 +110,17 @@ impl Edits {
     }
 
     // How many of its chain, residue and conformer an addition makes: those from the outermost on whose ids the addition before it doesn't
-    // have, and all three where another edit stands before it.
+    // have, and all three where another edit stands before it. The flags of optional texts tell nothing more, since a present one that is
+    // empty is refused.
     fn new_parents(&self, new: &ffi::Addition) -> usize {
         let Some(at) = self.addition else { return 3 };
         let call = &self.words[at..];
         let [chain, code, conformer, location] = parents(call);
         if call[2] != new.model || !same(chain, new.chain) {
             3
-        } else if call[3..5] != [new.residue, new.code.flag] || !same(code, new.code.text) {
+        } else if call[3] != new.residue || !same(code, new.code.text) {
             2
-        } else if call[5] != new.location.flag || !same(conformer, new.conformer) || !same(location, new.location.text) {
+        } else if !same(conformer, new.conformer) || !same(location, new.location.text) {
             1
         } else {
             0

@@ -84,39 +84,31 @@ fn by_a_builder() {
     assert_eq!(records(&store), records(&roomy()));
 }
 
-// How many records a list makes room for.
-fn room(edits: &Edits) -> usize {
+// How many records a list makes room for in a store of two models.
+fn room_made(edits: &Edits) -> usize {
     let mut store = Store::new();
+    store.apply_all(Edits::new().add_model(1).add_model(2)).unwrap();
+    assert_eq!(store.words().len(), 2 * 12 + 1);
     store.apply_all(edits).unwrap();
-    store.words().len() / 12
+    store.words().len() / 12 - 2
 }
 
 #[test]
 fn what_a_list_makes_room_for() {
     let mut edits = Edits::new();
-    let mut add = |model, chain, residue, conformer| {
-        edits.add_atom(model, atom(1), chain, residue, conformer);
-        edits.clone()
-    };
-    assert_eq!(room(Edits::new().add_model(1).add_model(2)), 2);
-    let two_models = |edits: &Edits| {
-        let mut store = Store::new();
-        store.apply_all(Edits::new().add_model(1).add_model(2)).unwrap();
-        store.apply_all(edits).unwrap();
-        store.words().len() / 12 - 2
-    };
-    assert_eq!(two_models(&add(0, "A", (1, None), ("GLY", None))), 4);
-    assert_eq!(two_models(&add(0, "A", (1, None), ("GLY", None))), 5);
-    assert_eq!(two_models(&add(0, "A", (1, None), ("ALA", None))), 7);
-    assert_eq!(two_models(&add(0, "A", (1, None), ("ALA", Some("B")))), 9);
-    assert_eq!(two_models(&add(0, "A", (1, Some("B")), ("ALA", Some("B")))), 12);
-    assert_eq!(two_models(&add(0, "A", (2, Some("B")), ("ALA", Some("B")))), 15);
-    assert_eq!(two_models(&add(0, "B", (2, Some("B")), ("ALA", Some("B")))), 19);
-    assert_eq!(two_models(&add(1, "B", (2, Some("B")), ("ALA", Some("B")))), 23);
+    let mut add = |model, chain, residue, conformer| room_made(edits.add_atom(model, atom(1), chain, residue, conformer));
+    assert_eq!(add(0, "A", (1, None), ("GLY", None)), 4);
+    assert_eq!(add(0, "A", (1, None), ("GLY", None)), 5);
+    assert_eq!(add(0, "A", (1, None), ("ALA", None)), 7);
+    assert_eq!(add(0, "A", (1, None), ("ALA", Some("B"))), 9);
+    assert_eq!(add(0, "A", (1, Some("B")), ("ALA", Some("B"))), 12);
+    assert_eq!(add(0, "A", (2, Some("B")), ("ALA", Some("B"))), 15);
+    assert_eq!(add(0, "B", (2, Some("B")), ("ALA", Some("B"))), 19);
+    assert_eq!(add(1, "B", (2, Some("B")), ("ALA", Some("B"))), 23);
     // Another edit between may have removed what the next addition would go to.
     edits.remove_empty(0);
     edits.add_atom(1, atom(1), "B", (2, Some("B")), ("ALA", Some("B")));
-    assert_eq!(two_models(&edits), 27);
+    assert_eq!(room_made(&edits), 27);
 }
 
 // A code in small letters is stored in capitals, so each atom makes a residue that the list doesn't count on.
