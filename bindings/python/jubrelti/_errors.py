@@ -57,8 +57,8 @@ class EditError(Error):
 class StaleHitError(RuntimeError):
     """A hit, or a part of the structure, was read after the store was edited. Its record numbers may name others by now."""
 
-    def __init__(self) -> None:
-        super().__init__("the store was edited since this was found, so its records may be others now; find it again")
+    def __str__(self) -> str:
+        return "the store was edited since this was found, so its records may be others now; find it again"
 
 
 def check(result: int) -> None:
