@@ -24,8 +24,9 @@ LEVELS = ("model", "chain", "residue", "conformer", "atom")
 
 
 def _whole(value: Any, what: str, low: int, high: int) -> int:
-    # A bool is an int to Python; here it is a mistake, since no number of a structure is a truth value.
-    if isinstance(value, bool) or not isinstance(value, Integral):
+    # A bool is an int to Python; here it is a mistake, since no number of a structure is a truth value. The type is asked first, since
+    # it is nearly always this one and the other two questions take ten times as long.
+    if type(value) is not int and (isinstance(value, bool) or not isinstance(value, Integral)):
         raise TypeError(f"{what} is a whole number, not {value!r}")
     if not low <= value <= high:
         raise ValueError(f"{what} is a whole number from {low:,} to {high:,}, not {value!r}")
@@ -48,7 +49,7 @@ def as_signed(word: int) -> int:
 
 def float_bits(value: Any, what: str) -> int:
     """The word of a float: its bits."""
-    if isinstance(value, bool) or not isinstance(value, Real):
+    if type(value) is not float and (isinstance(value, bool) or not isinstance(value, Real)):
         raise TypeError(f"{what} is a number, not {value!r}")
     try:
         return struct.unpack("<Q", struct.pack("<d", float(value)))[0]
