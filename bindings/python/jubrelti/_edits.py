@@ -226,8 +226,9 @@ class Applied:
 
     def all(self) -> Tuple[Edited, ...]:
         """The answers, if every edit was made; else the first refusal is raised as an `EditError`."""
-        for index, cause in self.refused:
-            raise EditError(index, cause)
+        refused = self.refused
+        if refused:
+            raise EditError(*refused[0])
         return tuple(answer for answer in self.answers if isinstance(answer, Edited))
 
     def __repr__(self) -> str:

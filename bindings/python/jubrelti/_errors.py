@@ -61,10 +61,14 @@ class StaleHitError(RuntimeError):
         return "the store was edited since this was found, so its records may be others now; find it again"
 
 
-def check(result: int) -> None:
-    """A result is 0 with its fields, or the number of a refusal."""
-    if result == 0:
-        return
+def refusal(result: int) -> Error:
+    """The refusal of a number above 0."""
     if result not in _REFUSALS:
         raise RuntimeError(f"refusal {result} is unknown: the library is of another version than this package")
-    raise Error(result)
+    return Error(result)
+
+
+def check(result: int) -> None:
+    """A result is 0 with its fields, or the number of a refusal."""
+    if result:
+        raise refusal(result)

@@ -6,6 +6,7 @@ All of them read the store when they are asked. They know the edition of the sto
 
 from __future__ import annotations
 
+import operator
 from array import array
 from itertools import islice
 from typing import TYPE_CHECKING, Any, Generic, Iterator, Optional, Sequence, Tuple, Type, TypeVar, Union, overload
@@ -279,11 +280,11 @@ class Parts(Generic[P]):
     and an index goes through those before it.
     """
 
-    __slots__ = ("_parent", "_type")
+    __slots__ = ("_parent", "_kind")
 
-    def __init__(self, store: Store, edition: object, records: Tuple[int, ...], type: Type[P]) -> None:
+    def __init__(self, store: Store, edition: object, records: Tuple[int, ...], kind: Type[P]) -> None:
         self._parent = _Records(store, edition, records)
-        self._type = type
+        self._kind = kind
 
     def _span(self) -> Tuple[int, int]:
         """The records below the parent: they end at the first of its own level or above."""
@@ -299,27 +300,29 @@ class Parts(Generic[P]):
 
     def __len__(self) -> int:
         start, end = self._span()
-        return self._parent._words()[start * RECORD : end * RECORD : RECORD].count(KINDS[self._type])
+        return self._parent._words()[start * RECORD : end * RECORD : RECORD].count(KINDS[self._kind])
 
     def __iter__(self) -> Iterator[P]:
-        parent, kind = self._parent, KINDS[self._type]
+        parent, wanted = self._parent, KINDS[self._kind]
         path = list(parent._records)
         for record in range(*self._span()):
             # Each step asks again, since the store may be edited between two of them.
             level = parent._words()[record * RECORD]
             path[level - 1 :] = [record]
-            if level == kind:
-                yield self._type(parent._store, parent._edition, tuple(path))
+            if level == wanted:
+                yield self._kind(parent._store, parent._edition, tuple(path))
 
     def __getitem__(self, index: int) -> P:
-        if index < 0:
-            index += len(self)
-        for part in islice(self, index, None) if index >= 0 else ():
-            return part
-        raise IndexError(f"there is no {self._type.__name__.lower()} at this index")
+        place = operator.index(index)
+        if place < 0:
+            place += len(self)
+        part = next(islice(self, place, None), None) if place >= 0 else None
+        if part is None:
+            raise IndexError(f"there is no {self._kind.__name__.lower()} at index {index}")
+        return part
 
     def __repr__(self) -> str:
-        return f"<Parts of type {self._type.__name__}>"
+        return f"<Parts of type {self._kind.__name__}>"
 
 
 class Hit(_Records):

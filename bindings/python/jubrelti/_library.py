@@ -7,6 +7,7 @@ no other. The library is loaded so that a call keeps the interpreter's lock: no 
 
 from __future__ import annotations
 
+import contextlib
 import ctypes
 import ctypes.util
 import os
@@ -57,18 +58,26 @@ def _folders() -> List[Path]:
     return [package.parents[2] / "target" / "dist" / "lib", package.parents[1] / "lib"]
 
 
-def _path() -> str:
+def _opened() -> ctypes.PyDLL:
     folders = _folders()
     for folder in folders:
         if (folder / FILE).is_file():
-            return str(folder / FILE)
-    found = None if os.environ.get(FOLDER_VARIABLE) else ctypes.util.find_library("jubrelti")
-    if found:
-        return found
+            return _open(str(folder / FILE))
+    if not os.environ.get(FOLDER_VARIABLE):
+        # The first finds a library by its recorded name, which it may lack; the loader itself goes by the file's.
+        with contextlib.suppress(ImportError):
+            return _open(ctypes.util.find_library("jubrelti") or FILE)
     looked = ", ".join(str(folder) for folder in folders)
     raise ImportError(
         f"{FILE} isn't in {looked}; build it with bindings/dist, or name its folder in the environment variable {FOLDER_VARIABLE}"
     )
+
+
+def _open(path: str) -> ctypes.PyDLL:
+    try:
+        return ctypes.PyDLL(path)
+    except OSError as error:
+        raise ImportError(f"the library {path} can't be loaded: {error}") from error
 
 
 def version_number(version: str) -> int:
@@ -85,14 +94,10 @@ def check_version(answered: int, path: str) -> None:
 
 
 def _load() -> ctypes.PyDLL:
-    path = _path()
-    try:
-        library = ctypes.PyDLL(path)
-    except OSError as error:
-        raise ImportError(f"the library {path} can't be loaded: {error}") from error
+    library = _opened()
     if not hasattr(library, "jubrelti_version"):
-        raise ImportError(f"the library {path} has no version and is older than this package, which is version {__version__}")
-    check_version(_declared(library, "jubrelti_version", _U64)(), path)
+        raise ImportError(f"the library {library._name} has no version, so it is older than this package, version {__version__}")
+    check_version(_declared(library, "jubrelti_version", _U64)(), library._name)
     return library
 
 

@@ -10,7 +10,7 @@ from typing import Any, NamedTuple, Optional, Sequence, Tuple, Union
 from . import _library as library
 from . import _values as values
 from ._edits import Applied, Edited, Editing, Edits
-from ._errors import NUMBERS, Error, check
+from ._errors import NUMBERS, Error, check, refusal
 from ._hierarchy import HIT, RECORD, Atom, Chain, Conformer, Hit, Hits, Model, Parts, Residue
 from ._search import Search, tree
 
@@ -93,7 +93,7 @@ def _applied(words: "array[int]", edits: Edits) -> "array[int]":
 
 
 def _answer(result: int, found: int, removed: int) -> Union[Edited, Error]:
-    return Error(result) if result else Edited(found == 1, removed)
+    return refusal(result) if result else Edited(found == 1, removed)
 
 
 class Store(Editing[Edited]):
@@ -140,7 +140,7 @@ class Store(Editing[Edited]):
         return self._of(_copied(self._words, _length(room)))
 
     def __reduce__(self) -> Any:
-        return Store.from_words, (self._words,)
+        return Store.from_words, (self._words[:],)
 
     def __eq__(self, other: object) -> bool:
         if not isinstance(other, Store):

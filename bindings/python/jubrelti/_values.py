@@ -28,9 +28,10 @@ def _whole(value: Any, what: str, low: int, high: int) -> int:
     # it is nearly always this one and the other two questions take ten times as long.
     if type(value) is not int and (isinstance(value, bool) or not isinstance(value, Integral)):
         raise TypeError(f"{what} is a whole number, not {value!r}")
-    if not low <= value <= high:
-        raise ValueError(f"{what} is a whole number from {low:,} to {high:,}, not {value!r}")
-    return int(value)
+    whole = int(value)
+    if not low <= whole <= high:
+        raise ValueError(f"{what} is a whole number from {low:,} to {high:,}, not {whole}")
+    return whole
 
 
 def number(value: Any, what: str) -> int:
@@ -52,13 +53,14 @@ def float_bits(value: Any, what: str) -> int:
     if type(value) is not float and (isinstance(value, bool) or not isinstance(value, Real)):
         raise TypeError(f"{what} is a number, not {value!r}")
     try:
-        return struct.unpack("<Q", struct.pack("<d", float(value)))[0]
+        return int.from_bytes(struct.pack("<d", float(value)), "little")
     except OverflowError:
         raise ValueError(f"{what} is too large for a float") from None
 
 
 def as_float(word: int) -> float:
-    return struct.unpack("<d", struct.pack("<Q", word))[0]
+    value: float = struct.unpack("<d", struct.pack("<Q", word))[0]
+    return value
 
 
 def truth(value: Any, what: str) -> int:

@@ -96,8 +96,10 @@ class Structure(unittest.TestCase):
         self.assertEqual([part.id for part in store.chains], ["A", "B", "C", "A"])
         self.assertEqual([atom.serial_number for atom in store.models[1].atoms], [7])
         for index in (2, -3):
-            with self.assertRaisesRegex(IndexError, "no model"):
+            with self.assertRaisesRegex(IndexError, f"there is no model at index {index}"):
                 store.models[index]
+        with self.assertRaises(TypeError):
+            store.models[0:1]
 
     def test_parts_without_children(self):
         store = Store()

@@ -54,11 +54,21 @@ class Library(unittest.TestCase):
             done = run(code, JUBRELTI_LIB_DIR=str(dist / "lib"))
             self.assertEqual(done.stdout.strip(), str(dist / "lib" / _library.FILE), done.stderr)
 
+    def test_the_system_loader(self):
+        with tempfile.TemporaryDirectory() as folder:
+            shutil.copytree(HERE / "jubrelti", Path(folder) / "a" / "b" / "jubrelti")
+            code = "import jubrelti._library as l; print(l._LIBRARY._name)"
+            loaded = run(code, Path(folder) / "a" / "b", LD_LIBRARY_PATH=str(Path(_library._LIBRARY._name).parent))
+            self.assertEqual(loaded.stdout.strip(), _library.FILE, loaded.stderr)
+            missing = run(code, Path(folder) / "a" / "b", LD_LIBRARY_PATH="")
+            self.assertIn("ImportError: libjubrelti.so isn't in ", missing.stderr)
+
     @unittest.skipUnless(shutil.which("gcc"), "gcc isn't installed")
     def test_a_library_of_another_version(self):
         with tempfile.TemporaryDirectory() as folder:
             path = Path(folder) / _library.FILE
-            for source, sentence in (("unsigned long long jubrelti_version(void) { return 1000; }", "is version 0.1.0, and"), ("", "older")):
+            older = "unsigned long long jubrelti_version(void) { return 1000; }"
+            for source, sentence in ((older, "is version 0.1.0, and"), ("", "older")):
                 subprocess.run(["gcc", "-shared", "-fPIC", "-x", "c", "-", "-o", str(path)], input=source, text=True, check=True)
                 done = run("import jubrelti", JUBRELTI_LIB_DIR=folder)
                 self.assertRegex(done.stderr, f"ImportError: .*{sentence}.*version {jubrelti.__version__}")
