@@ -138,6 +138,9 @@ class Stale(unittest.TestCase):
         store = rich()
         self.stale(lambda: [store.remove_atom(atom.position) for atom in store.atoms])
         self.assertEqual(store.counts.atoms, 6)
+        # Nor does it go on where nothing is read.
+        self.stale(lambda: [store.add_model(3) for _ in store.atoms])
+        self.assertEqual(store.counts.models, 3)
 
     def test_by_lists_and_growth(self):
         for edit in (

@@ -24,6 +24,7 @@ EACH = [
     (ResidueInsertionCode(None), [7, 0, 0], [1, 2, 5, 6, 7]),
     (ResidueId(4, None), [8, 4, 0], [5]),
     (ResidueId(4, "B"), [8, 4, B], [3, 4]),
+    (ResidueId(-3, None), [8, 2**64 - 3, 0], [1, 2]),
     (ConformerName("ALA"), [9, ALA, 0], [1, 2]),
     (ConformerAlternativeLocation("B"), [10, B, 0], [4]),
     (ConformerAlternativeLocation(None), [10, 0, 0], [1, 2, 5, 6, 7]),
