@@ -55,7 +55,7 @@ def _folders() -> List[Path]:
     if named:
         return [Path(named)]
     package = Path(__file__).resolve().parent
-    return [package.parents[2] / "target" / "dist" / "lib", package.parents[1] / "lib"]
+    return [(package / folder).resolve() for folder in ("../../../target/dist/lib", "../../lib")]
 
 
 def _opened() -> ctypes.PyDLL:

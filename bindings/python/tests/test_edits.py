@@ -155,6 +155,8 @@ class Lists(unittest.TestCase):
             self.assertEqual(records(store)[:2], [1, 1])
         store.apply_all(other)
         self.assertEqual([model.serial_number for model in store.models], [1, 1, 2])
+        store.apply_all(edits.add_model(3))
+        self.assertEqual([model.serial_number for model in store.models], [1, 1, 2, 1, 3])
         self.assertEqual(repr(other), "<Edits: 2>")
 
     def test_a_bad_value_adds_nothing_to_a_list(self):

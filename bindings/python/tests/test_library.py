@@ -8,6 +8,7 @@ import sys
 import tempfile
 import unittest
 from pathlib import Path
+from unittest import mock
 
 import jubrelti
 from jubrelti import _library
@@ -53,6 +54,11 @@ class Library(unittest.TestCase):
             self.assertEqual(done.stdout.strip(), str(dist / "lib" / _library.FILE), done.stderr)
             done = run(code, JUBRELTI_LIB_DIR=str(dist / "lib"))
             self.assertEqual(done.stdout.strip(), str(dist / "lib" / _library.FILE), done.stderr)
+
+    def test_a_package_near_the_root(self):
+        with mock.patch.object(_library, "__file__", "/none/jubrelti/_library.py"), mock.patch.dict(os.environ):
+            os.environ.pop(_library.FOLDER_VARIABLE, None)
+            self.assertEqual([path.name for path in _library._folders()], ["lib", "lib"])
 
     def test_the_system_loader(self):
         with tempfile.TemporaryDirectory() as folder:
