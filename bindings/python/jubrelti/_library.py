@@ -87,8 +87,8 @@ def version_number(version: str) -> int:
 
 
 def check_version(answered: int, path: str) -> None:
-    """Another version may have other calls under the same names, so it isn't used."""
-    if answered != version_number(__version__):
+    """Another version may have other calls under the same names, so it isn't used. A patch changes neither calls nor words."""
+    if answered // 1_000 != version_number(__version__) // 1_000:
         version = f"{answered // 1_000_000}.{answered // 1_000 % 1_000}.{answered % 1_000}"
         raise ImportError(f"the library {path} is version {version}, and this package is version {__version__}; use the same of both")
 

@@ -59,16 +59,16 @@ pub use store::{Store, Words, MAX_RECORDS};
 /// The version of these bindings, and of the library that they call: major * 1,000,000 + minor * 1,000 + patch.
 pub const VERSION: u64 = 2_000;
 
-// A library of another version may lay out its words or number its refusals in another way.
+// A library of another version may lay out its words or number its refusals in another way. A patch changes neither.
 fn check_version() -> Result<(), Error> {
     of_version(ffi::version())
 }
 
 fn of_version(library: u64) -> Result<(), Error> {
-    match library {
-        VERSION => Ok(()),
-        _ => Err(Error::OtherVersion { library, package: VERSION }),
+    if library / 1_000 == VERSION / 1_000 {
+        return Ok(());
     }
+    Err(Error::OtherVersion { library, package: VERSION })
 }
 
 #[cfg(test)]
@@ -78,6 +78,7 @@ mod tests {
     #[test]
     fn another_library_is_refused() {
         assert_eq!(of_version(VERSION), Ok(()));
+        assert_eq!(of_version(VERSION + 1), Ok(()));
         assert_eq!(of_version(1_000), Err(Error::OtherVersion { library: 1_000, package: VERSION }));
     }
 
