@@ -80,8 +80,7 @@ impl<W: Words> Store<W> {
         if edits.calls() == 1 {
             return self.edit(|store| ffi::add_model(store, serial_number as u64));
         }
-        let [models, ..] = self.counts();
-        let edited = self.apply_all(&edits.in_model(models)).map_err(of_atom)?;
+        let edited = self.apply_all(&edits.in_model(self.models_in_words())).map_err(of_atom)?;
         Ok(edited[0])
     }
 }

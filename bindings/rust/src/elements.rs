@@ -21,11 +21,7 @@ elements! {
 impl Element {
     /// The element of an atomic number, 1 to 118.
     pub fn new(atomic_number: usize) -> Option<Element> {
-        Element::lent(atomic_number).copied()
-    }
-
-    pub(crate) fn lent(atomic_number: usize) -> Option<&'static Element> {
-        ELEMENTS.get(atomic_number.checked_sub(1)?)
+        ELEMENTS.get(atomic_number.checked_sub(1)?).copied()
     }
 
     /// The element of a symbol in any case.

@@ -1,220 +1,221 @@
-// "a hit that borrows the store and names five records"
-use crate::store::RECORD;
-use crate::{text, Element};
+// pdbtbx's hierarchy.rs without what is mutable: an atom with what it stands in.
+use crate::reading::Reading;
+use crate::{Atom, Chain, Conformer, Model, Residue};
+use std::fmt;
 use std::ops::Range;
 
-// A record's words. Identifiers stand in words 1 and 2; their bytes are taken out of the words so that they can be lent as texts.
-#[derive(Clone, Copy, Debug)]
-struct Record<'a> {
-    words: &'a [u64],
-    bytes: [[u8; 8]; 2],
+/// An atom and its conformer.
+#[derive(Clone, Copy)]
+pub struct AtomConformer<'a> {
+    atom: &'a Atom,
+    conformer: &'a Conformer,
 }
 
-impl<'a> Record<'a> {
-    fn new(store: &'a [u64], number: usize) -> Self {
-        let words = &store[number * RECORD..][..RECORD];
-        Record { words, bytes: [words[1].to_be_bytes(), words[2].to_be_bytes()] }
-    }
-
-    fn number(&self, word: usize) -> usize {
-        self.words[word] as usize
-    }
-
-    fn signed(&self, word: usize) -> isize {
-        self.words[word] as isize
-    }
-
-    fn float(&self, word: usize) -> f64 {
-        f64::from_bits(self.words[word])
-    }
-
-    fn text(&self, word: usize) -> &str {
-        text::as_str(&self.bytes[word - 1])
-    }
-
-    fn optional(&self, word: usize) -> Option<&str> {
-        Some(self.text(word)).filter(|t| !t.is_empty())
-    }
+/// An atom, its conformer and its residue.
+#[derive(Clone, Copy)]
+pub struct AtomConformerResidue<'a> {
+    atom: &'a Atom,
+    conformer: &'a Conformer,
+    residue: &'a Residue,
 }
 
-/// A model in the store.
-#[derive(Clone, Copy, Debug)]
-pub struct Model<'a>(Record<'a>);
-
-impl Model<'_> {
-    /// Its serial number.
-    pub fn serial_number(&self) -> usize {
-        self.0.number(1)
-    }
+/// An atom, its conformer, residue and chain.
+#[derive(Clone, Copy)]
+pub struct AtomConformerResidueChain<'a> {
+    atom: &'a Atom,
+    conformer: &'a Conformer,
+    residue: &'a Residue,
+    chain: &'a Chain,
 }
 
-/// A chain in the store.
-#[derive(Clone, Copy, Debug)]
-pub struct Chain<'a>(Record<'a>);
-
-impl Chain<'_> {
-    /// Its id.
-    pub fn id(&self) -> &str {
-        self.0.text(1)
-    }
-}
-
-/// A residue in the store.
-#[derive(Clone, Copy, Debug)]
-pub struct Residue<'a>(Record<'a>);
-
-impl Residue<'_> {
-    /// Its serial number.
-    pub fn serial_number(&self) -> isize {
-        self.0.signed(1)
-    }
-
-    /// Its insertion code, if it has one.
-    pub fn insertion_code(&self) -> Option<&str> {
-        self.0.optional(2)
-    }
-
-    /// Its serial number and insertion code.
-    pub fn id(&self) -> (isize, Option<&str>) {
-        (self.serial_number(), self.insertion_code())
-    }
-}
-
-/// A conformer in the store.
-#[derive(Clone, Copy, Debug)]
-pub struct Conformer<'a>(Record<'a>);
-
-impl Conformer<'_> {
-    /// Its name.
-    pub fn name(&self) -> &str {
-        self.0.text(1)
-    }
-
-    /// Its alternative location, if it has one.
-    pub fn alternative_location(&self) -> Option<&str> {
-        self.0.optional(2)
-    }
-
-    /// Its name and alternative location.
-    pub fn id(&self) -> (&str, Option<&str>) {
-        (self.name(), self.alternative_location())
-    }
-}
-
-/// An atom in the store.
-#[derive(Clone, Copy, Debug)]
-pub struct Atom<'a>(Record<'a>);
-
-impl Atom<'_> {
-    /// Its serial number.
-    pub fn serial_number(&self) -> usize {
-        self.0.number(1)
-    }
-
-    /// Its name.
-    pub fn name(&self) -> &str {
-        self.0.text(2)
-    }
-
-    /// X in Å.
-    pub fn x(&self) -> f64 {
-        self.0.float(3)
-    }
-
-    /// Y in Å.
-    pub fn y(&self) -> f64 {
-        self.0.float(4)
-    }
-
-    /// Z in Å.
-    pub fn z(&self) -> f64 {
-        self.0.float(5)
-    }
-
-    /// X, y and z in Å.
-    pub fn pos(&self) -> (f64, f64, f64) {
-        (self.x(), self.y(), self.z())
-    }
-
-    /// Its occupancy.
-    pub fn occupancy(&self) -> f64 {
-        self.0.float(6)
-    }
-
-    /// Its B-factor.
-    pub fn b_factor(&self) -> f64 {
-        self.0.float(7)
-    }
-
-    /// Its element, if it isn't missing.
-    pub fn element(&self) -> Option<&Element> {
-        Element::lent(self.0.number(8))
-    }
-
-    /// Its charge.
-    pub fn charge(&self) -> isize {
-        self.0.signed(9)
-    }
-
-    /// Whether it is a hetero atom.
-    pub fn hetero(&self) -> bool {
-        self.0.number(10) == 1
-    }
-}
-
-/// An atom with what it stands in, pdbtbx's `AtomConformerResidueChainModel`.
-#[derive(Clone, Copy, Debug)]
+/// An atom with all that it stands in, which the crate calls [AtomConformerResidueChainModel].
+///
+/// What it lends lives as long as the structure, not only as long as the hit:
+///
+/// ```
+/// # use jubrelti::*;
+/// fn names(store: &Store) -> Result<Vec<&str>, Error> {
+///     Ok(store.find(Term::Backbone)?.map(|hit| hit.atom().name()).collect())
+/// }
+/// ```
+#[derive(Clone, Copy)]
 pub struct Hit<'a> {
-    records: [usize; 5],
-    model: Model<'a>,
-    chain: Chain<'a>,
-    residue: Residue<'a>,
-    conformer: Conformer<'a>,
-    atom: Atom<'a>,
+    pub(crate) records: [u32; 5],
+    pub(crate) position: [u32; 5],
+    pub(crate) model: &'a Model,
+    pub(crate) chain: &'a Chain,
+    pub(crate) residue: &'a Residue,
+    pub(crate) conformer: &'a Conformer,
+    pub(crate) atom: &'a Atom,
 }
 
-impl<'a> Hit<'a> {
-    pub(crate) fn new(store: &'a [u64], records: [u64; 5]) -> Self {
-        let records = records.map(|r| r as usize);
-        let [model, chain, residue, conformer, atom] = records.map(|r| Record::new(store, r));
-        Hit {
-            records,
-            model: Model(model),
-            chain: Chain(chain),
-            residue: Residue(residue),
-            conformer: Conformer(conformer),
-            atom: Atom(atom),
-        }
+/// The crate's name of a [Hit].
+pub type AtomConformerResidueChainModel<'a> = Hit<'a>;
+
+impl<'a> AtomConformer<'a> {
+    pub(crate) fn new(atom: &'a Atom, conformer: &'a Conformer) -> Self {
+        AtomConformer { atom, conformer }
     }
 
+    pub(crate) fn extend(self, residue: &'a Residue) -> AtomConformerResidue<'a> {
+        AtomConformerResidue { atom: self.atom, conformer: self.conformer, residue }
+    }
+}
+
+impl<'a> AtomConformerResidue<'a> {
+    pub(crate) fn extend(self, chain: &'a Chain) -> AtomConformerResidueChain<'a> {
+        AtomConformerResidueChain { atom: self.atom, conformer: self.conformer, residue: self.residue, chain }
+    }
+}
+
+impl Hit<'_> {
     /// The record numbers in the store, from the model down.
     pub fn records(&self) -> [usize; 5] {
-        self.records
+        self.records.map(|r| r as usize)
     }
 
-    /// The model.
-    pub fn model(&self) -> &Model<'a> {
-        &self.model
+    /// The indexes from the model down, as the edits take them:
+    ///
+    /// ```
+    /// # use jubrelti::*;
+    /// # fn main() -> Result<(), Error> {
+    /// # let mut store = Store::with_records(10)?;
+    /// # store.add_model(1)?;
+    /// # store.add_atom(0, NewAtom { name: "N", ..NewAtom::default() }, "A", (7, None), ("ALA", None))?;
+    /// let first = store.find(Term::Backbone)?.next().map(|hit| hit.position());
+    /// if let Some(position) = first {
+    ///     store.remove_atom(position)?;
+    /// }
+    /// # assert_eq!(store.atom_count(), 0);
+    /// # Ok(())
+    /// # }
+    /// ```
+    pub fn position(&self) -> [usize; 5] {
+        self.position.map(|i| i as usize)
     }
+}
 
-    /// The chain.
-    pub fn chain(&self) -> &Chain<'a> {
-        &self.chain
-    }
-
-    /// The residue.
-    pub fn residue(&self) -> &Residue<'a> {
-        &self.residue
-    }
+/// What has an atom and its conformer.
+pub trait ContainsAtomConformer {
+    /// The atom.
+    fn atom(&self) -> &Atom;
 
     /// The conformer.
-    pub fn conformer(&self) -> &Conformer<'a> {
-        &self.conformer
+    fn conformer(&self) -> &Conformer;
+
+    /// Whether the atom belongs to the backbone of an amino acid.
+    fn is_backbone(&self) -> bool {
+        self.conformer().is_amino_acid() && self.atom().is_backbone()
     }
 
-    /// The atom.
-    pub fn atom(&self) -> &Atom<'a> {
-        &self.atom
+    /// Whether the atom belongs to the side chain of an amino acid.
+    fn is_sidechain(&self) -> bool {
+        self.conformer().is_amino_acid() && !self.atom().is_backbone()
+    }
+}
+
+/// What has a residue too.
+pub trait ContainsAtomConformerResidue: ContainsAtomConformer {
+    /// The residue.
+    fn residue(&self) -> &Residue;
+}
+
+/// What has a chain too.
+pub trait ContainsAtomConformerResidueChain: ContainsAtomConformerResidue {
+    /// The chain.
+    fn chain(&self) -> &Chain;
+}
+
+/// What has a model too.
+pub trait ContainsAtomConformerResidueChainModel: ContainsAtomConformerResidueChain {
+    /// The model.
+    fn model(&self) -> &Model;
+}
+
+// The crate's traits lend for as long as the hierarchy lives; the types' own methods lend for as long as the structure does.
+macro_rules! lends {
+    ($trait:ident: $($part:ident $level:ident),*; $($type:ident)*) => {
+        lends!(@ $trait [$($part $level),*] $($type)*);
+    };
+    (@ $trait:ident $parts:tt $($type:ident)*) => {
+        $(lends!(@@ $trait $type $parts);)*
+    };
+    (@@ $trait:ident $type:ident [$($part:ident $level:ident),*]) => {
+        impl<'a> $type<'a> {
+            $(#[doc = concat!("The ", stringify!($part), ".")]
+            pub fn $part(&self) -> &'a $level {
+                self.$part
+            })*
+        }
+
+        impl $trait for $type<'_> {
+            $(fn $part(&self) -> &$level {
+                self.$part
+            })*
+        }
+    };
+}
+
+lends!(ContainsAtomConformer: atom Atom, conformer Conformer;
+    AtomConformer AtomConformerResidue AtomConformerResidueChain Hit);
+lends!(ContainsAtomConformerResidue: residue Residue; AtomConformerResidue AtomConformerResidueChain Hit);
+lends!(ContainsAtomConformerResidueChain: chain Chain; AtomConformerResidueChain Hit);
+lends!(ContainsAtomConformerResidueChainModel: model Model; Hit);
+
+// The last level is a line of names and numbers. A derived Debug would print all that the levels hold.
+macro_rules! compared_and_shown {
+    ($($type:ident)*) => {
+        $(
+            /// By the atom's serial number and the conformer's alternative location, as in the crate.
+            impl PartialEq for $type<'_> {
+                fn eq(&self, other: &Self) -> bool {
+                    self.atom.serial_number() == other.atom.serial_number()
+                        && self.conformer.alternative_location() == other.conformer.alternative_location()
+                }
+            }
+
+            impl Eq for $type<'_> {}
+
+            impl fmt::Debug for $type<'_> {
+                fn fmt(&self, f: &mut fmt::Formatter<'_>) -> fmt::Result {
+                    write!(f, "{}({self})", stringify!($type))
+                }
+            }
+        )*
+    };
+}
+
+compared_and_shown!(AtomConformer AtomConformerResidue AtomConformerResidueChain Hit);
+
+impl fmt::Display for AtomConformer<'_> {
+    fn fmt(&self, f: &mut fmt::Formatter<'_>) -> fmt::Result {
+        f.write_str(self.conformer.name())?;
+        if let Some(location) = self.conformer.alternative_location() {
+            write!(f, " at {location}")?;
+        }
+        write!(f, ", atom {} {}", self.atom.serial_number(), self.atom.name())
+    }
+}
+
+impl fmt::Display for AtomConformerResidue<'_> {
+    fn fmt(&self, f: &mut fmt::Formatter<'_>) -> fmt::Result {
+        let (number, code) = self.residue.id();
+        write!(f, "residue {number}{}, {}", code.unwrap_or(""), AtomConformer::new(self.atom, self.conformer))
+    }
+}
+
+impl fmt::Display for AtomConformerResidueChain<'_> {
+    fn fmt(&self, f: &mut fmt::Formatter<'_>) -> fmt::Result {
+        let below = AtomConformer::new(self.atom, self.conformer).extend(self.residue);
+        write!(f, "chain {}, {below}", self.chain.id())
+    }
+}
+
+/// One line, as `model 1, chain A, residue 7B, ALA at A, atom 2 CA`.
+impl fmt::Display for Hit<'_> {
+    fn fmt(&self, f: &mut fmt::Formatter<'_>) -> fmt::Result {
+        let below = AtomConformer::new(self.atom, self.conformer).extend(self.residue).extend(self.chain);
+        write!(f, "model {}, {below}", self.model.serial_number())
     }
 }
 
@@ -227,21 +228,30 @@ impl<'a> Hit<'a> {
 /// store.add_model(1).unwrap();
 /// println!("{}", hits.len());
 /// ```
-#[derive(Clone, Debug)]
+///
+/// The structure is read out when the first hit is taken, so the number of hits alone doesn't cost that.
+#[derive(Clone)]
 pub struct Hits<'a> {
     store: &'a [u64],
+    reading: &'a Reading,
     words: Vec<u64>,
     left: Range<usize>,
 }
 
 impl<'a> Hits<'a> {
-    // "A hit is five words"
-    pub(crate) fn new(store: &'a [u64], words: Vec<u64>, count: usize) -> Self {
-        Hits { store, words, left: 0..count }
+    // "Five words for each"
+    pub(crate) fn new(store: &'a [u64], reading: &'a Reading, words: Vec<u64>, count: usize) -> Self {
+        Hits { store, reading, words, left: 0..count }
     }
 
     fn hit(&self, i: usize) -> Hit<'a> {
-        Hit::new(self.store, std::array::from_fn(|word| self.words[i * 5 + word]))
+        self.reading.hit(self.store, std::array::from_fn(|word| self.words[i * 5 + word]))
+    }
+}
+
+impl fmt::Debug for Hits<'_> {
+    fn fmt(&self, f: &mut fmt::Formatter<'_>) -> fmt::Result {
+        f.debug_list().entries(self.clone()).finish()
     }
 }
 

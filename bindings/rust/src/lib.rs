@@ -31,7 +31,10 @@
 #![deny(unsafe_code, clippy::undocumented_unsafe_blocks)]
 
 mod apply;
+mod atom;
 mod builder;
+mod chain;
+mod conformer;
 mod edits;
 mod elements;
 mod error;
@@ -39,20 +42,32 @@ mod error;
 mod ffi;
 mod hierarchy;
 mod list;
+mod model;
 mod new_atom;
+mod reading;
+mod residue;
 mod search;
 mod store;
+mod structure;
+mod tables;
 mod text;
 mod tree;
 
 pub use apply::Applied;
+pub use atom::Atom;
 pub use builder::ModelBuilder;
+pub use chain::Chain;
+pub use conformer::Conformer;
 pub use edits::Edited;
 pub use elements::Element;
 pub use error::Error;
-pub use hierarchy::{Atom, Chain, Conformer, Hit, Hits, Model, Residue};
+pub use hierarchy::{AtomConformer, AtomConformerResidue, AtomConformerResidueChain, AtomConformerResidueChainModel, Hit, Hits};
+pub use hierarchy::{ContainsAtomConformer, ContainsAtomConformerResidue};
+pub use hierarchy::{ContainsAtomConformerResidueChain, ContainsAtomConformerResidueChainModel};
 pub use list::Edits;
+pub use model::Model;
 pub use new_atom::NewAtom;
+pub use residue::Residue;
 pub use search::{Ops, Search, Term};
 pub use store::{Store, Words, MAX_RECORDS};
 

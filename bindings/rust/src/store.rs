@@ -1,6 +1,6 @@
 use crate::new_atom::optional;
+use crate::reading::Reading;
 use crate::{check_version, ffi, Error, Hit, Hits, Search};
-use std::fmt;
 
 // "A record is 12 words"
 pub(crate) const RECORD: usize = 12;
@@ -78,6 +78,7 @@ pub(crate) fn doubled(room: usize) -> Option<usize> {
 #[derive(Clone)]
 pub struct Store<W = Vec<u64>> {
     words: W,
+    pub(crate) reading: Reading,
 }
 
 impl Store {
@@ -110,19 +111,20 @@ impl<W: Words> Store<W> {
         Ok(store)
     }
 
-    // Every change of the words goes through this call or the next.
+    // Every change of the words goes through this call or the next: what was read out of them holds no longer.
     pub(crate) fn words_mut(&mut self) -> &mut [u64] {
+        self.reading = Reading::default();
         self.words.as_mut()
     }
 
     pub(crate) fn replace(&mut self, words: W) {
-        self.words = words;
+        *self = Store::of(words);
     }
 }
 
 impl<W> Store<W> {
     fn of(words: W) -> Self {
-        Store { words }
+        Store { words, reading: Reading::default() }
     }
 }
 
@@ -174,7 +176,7 @@ impl<W: AsRef<[u64]>> Store<W> {
         let mut out = vec![0; words.len() / RECORD * 5];
         let found = ffi::find(words, &tree, &mut out);
         Error::check(found.result)?;
-        Ok(Hits::new(words, out, found.hits as usize))
+        Ok(Hits::new(words, &self.reading, out, found.hits as usize))
     }
 
     /// The atom of a serial number and alternative location in the first model.
@@ -185,31 +187,12 @@ impl<W: AsRef<[u64]>> Store<W> {
         let words = self.words();
         let answer = ffi::binary_find_atom(words, serial_number as u64, optional(alternative_location));
         Error::check(answer.result)?;
-        Ok((answer.found == 1).then(|| Hit::new(words, answer.at)))
+        Ok((answer.found == 1).then(|| self.reading.hit(words, answer.at)))
     }
 
-    // How many records of each kind there are, from the models down: "kind (word 0)", 1 to 5.
-    pub(crate) fn counts(&self) -> [usize; 5] {
+    // How many models there are. To read the structure out would take longer.
+    pub(crate) fn models_in_words(&self) -> usize {
         let words = self.words();
-        let mut counts = [0; 5];
-        for record in words.chunks_exact(RECORD).take(records(words)) {
-            counts[record[0] as usize - 1] += 1;
-        }
-        counts
-    }
-}
-
-/// How much there is of each kind, and how many records out of those that there is room for; the words can be a million.
-impl<W: AsRef<[u64]>> fmt::Debug for Store<W> {
-    fn fmt(&self, f: &mut fmt::Formatter<'_>) -> fmt::Result {
-        let [models, chains, residues, conformers, atoms] = self.counts();
-        f.debug_struct("Store")
-            .field("models", &models)
-            .field("chains", &chains)
-            .field("residues", &residues)
-            .field("conformers", &conformers)
-            .field("atoms", &atoms)
-            .field("records", &format_args!("{} of {}", records(self.words()), room(self.words())))
-            .finish()
+        words.chunks_exact(RECORD).take(records(words)).filter(|record| record[0] == 1).count()
     }
 }

@@ -1,5 +1,6 @@
 // Packed texts: the bytes from the highest byte of a word down, then zero bytes.
 use crate::Error;
+use std::fmt;
 
 // "query texts that can be packed as given"
 pub fn pack(text: &str) -> Result<u64, Error> {
@@ -20,8 +21,31 @@ pub fn pack_optional(text: Option<&str>) -> Result<u64, Error> {
     }
 }
 
-// The text of a packed word's bytes.
-pub fn as_str(bytes: &[u8; 8]) -> &str {
-    let end = bytes.iter().position(|b| *b == 0).unwrap_or(8);
-    std::str::from_utf8(&bytes[..end]).expect("the texts of a good store are ASCII")
+// A stored text taken out of its word. It stands inline, so that reading a structure out needs no allocation for its texts.
+#[derive(Clone, Copy, PartialEq, Eq)]
+pub struct Text {
+    bytes: [u8; 8],
+    length: u8,
+}
+
+impl Text {
+    pub fn read(word: u64) -> Self {
+        let bytes = word.to_be_bytes();
+        Text { bytes, length: bytes.iter().take_while(|b| **b != 0).count() as u8 }
+    }
+
+    // "0 means absent"
+    pub fn optional(word: u64) -> Option<Self> {
+        (word != 0).then(|| Text::read(word))
+    }
+
+    pub fn as_str(&self) -> &str {
+        std::str::from_utf8(&self.bytes[..self.length as usize]).expect("the texts of a good store are ASCII")
+    }
+}
+
+impl fmt::Debug for Text {
+    fn fmt(&self, f: &mut fmt::Formatter<'_>) -> fmt::Result {
+        self.as_str().fmt(f)
+    }
 }

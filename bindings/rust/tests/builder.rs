@@ -110,12 +110,6 @@ fn new_atoms() {
 
 #[test]
 fn what_debug_shows() {
-    let mut store = Store::with_records(20).unwrap();
-    store.add_model(model(1)).unwrap();
-    store.add_model(2).unwrap();
-    let text = "Store { models: 2, chains: 2, residues: 2, conformers: 2, atoms: 3, records: 11 of 20 }";
-    assert_eq!(format!("{store:?}"), text);
-    let empty = "Store { models: 0, chains: 0, residues: 0, conformers: 0, atoms: 0, records: 0 of 0 }";
-    assert_eq!(format!("{:?}", Store::new()), empty);
+    assert_eq!(format!("{:?}", Store::new()), "Store { models: [] }");
     assert_eq!(format!("{:?}", Edits::new().add_model(1).add_model(2)), "Edits { edits: 2 }");
 }
