@@ -5,10 +5,12 @@ mod identifiers;
 mod judges;
 mod junk;
 mod list;
+#[macro_use]
 mod original;
 mod plain;
 mod port;
 mod random;
+mod reading;
 mod sides;
 mod trees;
 use port::Call;
@@ -38,21 +40,30 @@ fn as_one(r: &mut Random, length: usize, calls: &[Call], answers: &[u64], after:
     4
 }
 
-// One random list; the number of spoilt ones made from it.
-fn list(r: &mut Random, counts: &mut Counts) -> u64 {
+// One random list; the number of spoilt ones made from it. The package reads at its end and at every eighth call.
+fn list(r: &mut Random, counts: &mut Counts, reads: &mut reading::Counts) -> u64 {
     let length = 1 + r.below(30 * 12) as usize;
     let mut sides = Sides::open((0..length).map(|_| r.word()).collect());
     let (mut calls, mut answers) = (Vec::new(), Vec::new());
-    for _ in 0..r.below(60) {
+    for step in 0..r.below(60) {
         let call = r.call(&sides.judges.machine);
         let e = sides.edit(&call, counts);
         answers.extend([e.result, e.found, e.removed]);
         calls.push(call);
         let tree = r.tree();
         let room = if r.one_in(8) { r.below(20) as usize } else { length };
-        sides.find(&tree, room, counts);
-        sides.lookup(r.small(), &r.optional(), counts);
+        let found = sides.find(&tree, room, counts);
+        let (serial, location) = (r.small(), r.optional());
+        let looked_up = sides.lookup(serial, &location, counts);
+        if step % 8 == 7 {
+            reading::compare(&sides, reads);
+            reading::lookup(&sides, serial, &location, &looked_up, reads);
+            if found.result == 0 {
+                reading::hits(&sides, &tree, reads);
+            }
+        }
     }
+    reading::compare(&sides, reads);
     let other = r.below(30 * 12);
     sides.copy((0..other).map(|_| r.word()).collect());
     as_one(r, length, &calls, &answers, &sides.store)
@@ -68,7 +79,13 @@ fn main() {
     println!("characters above 127: the listed blanks differ, and no other");
     trees::compare().print("small trees in full");
     floats::compare().print("floats, each against each");
-    let mut counts = Counts::default();
-    let spoilt: u64 = (0..lists).map(|i| list(&mut Random::new(seed.wrapping_mul(1_000_003).wrapping_add(i)), &mut counts)).sum();
+    let (mut counts, mut reads) = (Counts::default(), reading::Counts::default());
+    let random = |i: u64| Random::new(seed.wrapping_mul(1_000_003).wrapping_add(i));
+    let spoilt: u64 = (0..lists).map(|i| list(&mut random(i), &mut counts, &mut reads)).sum();
     counts.print(&format!("seed {seed}, {lists} random lists and {spoilt} spoilt ones"));
+    let mut places = Counts::default();
+    (0..lists / 10).for_each(|i| reading::compare_places(&mut random(i), &mut places, &mut reads));
+    places.print(&format!("seed {seed}, {} structures of atoms in random places", lists / 10));
+    println!("{} names of conformers and atoms, in the package's tables as in the crate's", reading::compare_tables());
+    reads.print();
 }

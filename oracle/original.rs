@@ -1,7 +1,7 @@
 // The same calls on pdbtbx's own structures, for calls in the domain of the comparison.
 use crate::plain;
 use crate::port::{Call, NewAtom, Optional};
-use pdbtbx::{Atom, Chain, Conformer, Element, Model, Ops, Residue, Search, Term, PDB};
+use pdbtbx::{Atom, Chain, Conformer, Element, Model, Residue, PDB};
 
 fn text(bytes: &[u8]) -> &str {
     std::str::from_utf8(bytes).unwrap()
@@ -9,14 +9,6 @@ fn text(bytes: &[u8]) -> &str {
 
 fn optional(o: &Optional) -> Option<&str> {
     (o.flag == 1).then(|| text(&o.text))
-}
-
-fn unpacked(word: u64) -> String {
-    word.to_be_bytes().iter().take_while(|b| **b != 0).map(|b| *b as char).collect()
-}
-
-fn maybe(word: u64) -> Option<String> {
-    (word != 0).then(|| unpacked(word))
 }
 
 fn element(number: u64) -> Element {
@@ -156,49 +148,67 @@ pub fn machine(p: &PDB) -> plain::Machine {
 
 // ---- trees
 
-fn term(code: u64, p: u64, q: u64) -> Term {
-    let f = f64::from_bits;
-    match code {
-        1 => Term::ModelSerialNumber(p as usize),
-        2 => Term::ModelSerialNumberRange(p as usize, q as usize),
-        3 => Term::ChainId(unpacked(p)),
-        4 => Term::ChainIdRange(unpacked(p), unpacked(q)),
-        5 => Term::ResidueSerialNumber(p as isize),
-        6 => Term::ResidueSerialNumberRange(p as isize, q as isize),
-        7 => Term::ResidueInsertionCode(maybe(p)),
-        8 => Term::ResidueId(p as isize, maybe(q)),
-        9 => Term::ConformerName(unpacked(p)),
-        10 => Term::ConformerAlternativeLocation(maybe(p)),
-        11 => Term::ConformerId(unpacked(p), maybe(q)),
-        12 => Term::AtomSerialNumber(p as usize),
-        13 => Term::AtomSerialNumberRange(p as usize, q as usize),
-        14 => Term::AtomName(unpacked(p)),
-        15 => Term::Element(element(p)),
-        16 => Term::BFactor(f(p)),
-        17 => Term::BFactorRange(f(p), f(q)),
-        18 => Term::Occupancy(f(p)),
-        19 => Term::OccupancyRange(f(p), f(q)),
-        20 => Term::Backbone,
-        21 => Term::SideChain,
-        _ => Term::Hetero,
-    }
+// A tree as a crate's search; the package has the same names.
+macro_rules! searches {
+    ($crate_name:ident) => {
+        fn unpacked(word: u64) -> String {
+            word.to_be_bytes().iter().take_while(|b| **b != 0).map(|b| *b as char).collect()
+        }
+
+        fn maybe(word: u64) -> Option<String> {
+            (word != 0).then(|| unpacked(word))
+        }
+
+        fn term(code: u64, p: u64, q: u64) -> $crate_name::Term {
+            use $crate_name::{Element, Term};
+            let f = f64::from_bits;
+            match code {
+                1 => Term::ModelSerialNumber(p as usize),
+                2 => Term::ModelSerialNumberRange(p as usize, q as usize),
+                3 => Term::ChainId(unpacked(p)),
+                4 => Term::ChainIdRange(unpacked(p), unpacked(q)),
+                5 => Term::ResidueSerialNumber(p as isize),
+                6 => Term::ResidueSerialNumberRange(p as isize, q as isize),
+                7 => Term::ResidueInsertionCode(maybe(p)),
+                8 => Term::ResidueId(p as isize, maybe(q)),
+                9 => Term::ConformerName(unpacked(p)),
+                10 => Term::ConformerAlternativeLocation(maybe(p)),
+                11 => Term::ConformerId(unpacked(p), maybe(q)),
+                12 => Term::AtomSerialNumber(p as usize),
+                13 => Term::AtomSerialNumberRange(p as usize, q as usize),
+                14 => Term::AtomName(unpacked(p)),
+                15 => Term::Element(Element::new(p as usize).unwrap()),
+                16 => Term::BFactor(f(p)),
+                17 => Term::BFactorRange(f(p), f(q)),
+                18 => Term::Occupancy(f(p)),
+                19 => Term::OccupancyRange(f(p), f(q)),
+                20 => Term::Backbone,
+                21 => Term::SideChain,
+                _ => Term::Hetero,
+            }
+        }
+
+        pub fn search(tree: &crate::plain::Tree) -> $crate_name::Search {
+            use crate::plain::Tree;
+            use $crate_name::{Ops, Search};
+            match tree {
+                Tree::Term(c, p, q) => Search::Single(term(*c, *p, *q)),
+                Tree::Known(b) => Search::Known(*b),
+                Tree::Not(a) => Search::Not(Box::new(search(a))),
+                Tree::Ops(o, a, b) => {
+                    let o = match o {
+                        23 => Ops::And,
+                        24 => Ops::Or,
+                        _ => Ops::Xor,
+                    };
+                    Search::Ops(o, Box::new(search(a)), Box::new(search(b)))
+                }
+            }
+        }
+    };
 }
 
-pub fn search(tree: &plain::Tree) -> Search {
-    match tree {
-        plain::Tree::Term(c, p, q) => Search::Single(term(*c, *p, *q)),
-        plain::Tree::Known(b) => Search::Known(*b),
-        plain::Tree::Not(a) => Search::Not(Box::new(search(a))),
-        plain::Tree::Ops(o, a, b) => {
-            let o = match o {
-                23 => Ops::And,
-                24 => Ops::Or,
-                _ => Ops::Xor,
-            };
-            Search::Ops(o, Box::new(search(a)), Box::new(search(b)))
-        }
-    }
-}
+searches!(pdbtbx);
 
 // The hits, each part numbered as its record is.
 pub fn find(p: &PDB, tree: &plain::Tree) -> Vec<[u64; 5]> {

@@ -1,6 +1,6 @@
 // The port beside its judges: everything is compared after each call, and a disagreement stops the run and prints the call.
 use crate::judges::Judges;
-use crate::port::{self, Call, Edit, Find, Optional};
+use crate::port::{self, Call, Edit, Find, Lookup, Optional};
 use crate::{original, plain};
 
 #[derive(Default)]
@@ -74,9 +74,10 @@ impl Sides {
         assert_eq!((answer, words), expected, "copy of {:?}", self.store);
     }
 
-    pub fn lookup(&self, serial: u64, location: &Optional, counts: &mut Counts) {
+    pub fn lookup(&self, serial: u64, location: &Optional, counts: &mut Counts) -> Lookup {
         let ours = port::binary_find_atom(&self.store, serial, location);
         assert_eq!(ours, plain::lookup(&self.judges.machine, serial, location), "lookup {serial} {location:?} on {:?}", self.store);
         counts.lookups += 1;
+        ours
     }
 }
