@@ -74,7 +74,8 @@ impl Hit<'_> {
         self.records.map(|r| r as usize)
     }
 
-    /// The indexes from the model down, as the edits take them:
+    /// The indexes from the model down, as the edits take them. An edit moves what stands behind it, so these go from the last to
+    /// the first:
     ///
     /// ```
     /// # use jubrelti::*;
@@ -82,11 +83,13 @@ impl Hit<'_> {
     /// # let mut store = Store::with_records(10)?;
     /// # store.add_model(1)?;
     /// # store.add_atom(0, NewAtom { name: "N", ..NewAtom::default() }, "A", (7, None), ("ALA", None))?;
-    /// let first = store.find(Term::Backbone)?.next().map(|hit| hit.position());
-    /// if let Some(position) = first {
+    /// # store.add_atom(0, NewAtom { name: "CB", ..NewAtom::default() }, "A", (7, None), ("ALA", None))?;
+    /// # store.add_atom(0, NewAtom { name: "CA", ..NewAtom::default() }, "A", (7, None), ("ALA", None))?;
+    /// let positions: Vec<[usize; 5]> = store.find(Term::Backbone)?.map(|hit| hit.position()).collect();
+    /// for position in positions.into_iter().rev() {
     ///     store.remove_atom(position)?;
     /// }
-    /// # assert_eq!(store.atom_count(), 0);
+    /// # assert_eq!(store.atoms().map(|a| a.name()).collect::<Vec<_>>(), ["CB"]);
     /// # Ok(())
     /// # }
     /// ```
@@ -162,7 +165,7 @@ lends!(ContainsAtomConformerResidue: residue Residue; AtomConformerResidue AtomC
 lends!(ContainsAtomConformerResidueChain: chain Chain; AtomConformerResidueChain Hit);
 lends!(ContainsAtomConformerResidueChainModel: model Model; Hit);
 
-// The last level is a line of names and numbers. A derived Debug would print all that the levels hold.
+// Debug shows a line of names and numbers: a derived one would print all that the levels hold.
 macro_rules! compared_and_shown {
     ($($type:ident)*) => {
         $(

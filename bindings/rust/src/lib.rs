@@ -2,7 +2,8 @@
 //!
 //! The store and its calls are a port of the `structs` module of [pdbtbx](https://crates.io/crates/pdbtbx) 0.12.0 in which each
 //! function is proved to equal its definition. These bindings are a thin layer over its C interface: they turn Rust values
-//! into words and back, let a store that owns its words grow, and decide nothing else.
+//! into words and back, let a store that owns its words grow, lend what the words hold under the crate's names, and decide
+//! nothing else.
 //!
 //! ```
 //! use jubrelti::*;
@@ -24,6 +25,54 @@
 //!
 //! A term that an atom can't decide (its element is missing) is neither true nor false, and such an atom is a hit: a query leaves
 //! out only the atoms where it is false.
+//!
+//! # Reading
+//!
+//! A store is read as the crate's `PDB` is: [Model], [Chain], [Residue], [Conformer] and [Atom] have no lifetime of their own, and
+//! what they lend lives as long as the store isn't edited.
+//!
+//! ```
+//! use jubrelti::*;
+//!
+//! fn label(atom: &Atom) -> &str {
+//!     atom.name()
+//! }
+//!
+//! # fn main() -> Result<(), Error> {
+//! # let mut store = Store::with_records(100)?;
+//! # store.add_model(1)?;
+//! # store.add_atom(0, NewAtom { name: "N", ..NewAtom::default() }, "A", (7, None), ("ALA", None))?;
+//! # store.add_atom(0, NewAtom { name: "CB", ..NewAtom::default() }, "A", (7, None), ("ALA", None))?;
+//! let names: Vec<&str> = store.atoms().map(label).collect();
+//! assert_eq!(names, ["N", "CB"]);
+//! for residue in store.residues().rev() {
+//!     println!("{} {:?}: {} atoms", residue.serial_number(), residue.name(), residue.atom_count());
+//! }
+//! let side_chain: Vec<_> = store.atoms_with_hierarchy().filter(|h| h.is_sidechain()).collect();
+//! assert_eq!(side_chain[0].to_string(), "model 1, chain A, residue 7, ALA, atom 0 CB");
+//! # Ok(())
+//! # }
+//! ```
+//!
+//! The words can't be lent as texts, so the first reading after an edit reads the whole structure out of them: one pass, and
+//! about four fifths of the words' memory again. The next edit drops what was read out. So collect what edits go by, such as
+//! [Hit::position], before the first of them, rather than read and edit in turn. A search alone reads nothing out until a hit is
+//! taken.
+//!
+//! ## What the crate has and this package leaves out
+//!
+//! - All that ends in `_mut`, each `set_..`, the constructors, `sort`, `renumber`, `apply_transformation`: words are edited by the
+//!   library's proved edits alone, and a change of what was read out would be lost.
+//! - All that begins with `par_`, and the trees of rstar: the package has no dependencies. A store is `Sync`, so threads can share
+//!   its atoms.
+//! - `distance_wrapping` and the four `overlaps..`: a store has no unit cell, and the package no table of radii.
+//! - Remarks, bonds, matrices, unit cell, symmetry, `modification`, `database_reference`, anisotropic factors: a store has no words
+//!   for them.
+//! - `find` of a model, chain, residue or conformer: the library searches whole stores. Terms narrow a search to a part.
+//! - `binary_find_atom` of a model or chain: in the crate it misses atoms that are there, and it panics on an empty chain
+//!   (`docs/DIFFERENCES.md`, "Serial lookup"). [Store::binary_find_atom] has a definition that is proved.
+//!
+//! # Safety
 //!
 //! What `include/jubrelti.h` asks of a caller in C holds here by the types: each pointer comes with the length of a slice that is
 //! borrowed for the call, and one that the call writes is borrowed by `&mut`, so it overlaps no other. No safe code can break this.

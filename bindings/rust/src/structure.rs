@@ -19,7 +19,8 @@ struct Place {
 const NO_RECORD: u32 = u32::MAX;
 
 impl Structure {
-    // The words are a good store's: the library has checked their layout, and nothing but its edits has changed them since.
+    // The words are a good store's: the library has checked their layout, and nothing but its edits has changed them since. Words of a
+    // caller's own type, which lends others each time, can make this panic, and no more.
     pub fn read(words: &[u64]) -> Self {
         let records = &words[..words[words.len() - 1] as usize];
         Structure { models: models(records), places: places(records) }

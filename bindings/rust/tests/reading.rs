@@ -214,7 +214,7 @@ fn texts_of_each_level() {
     assert_eq!(store.chain(0).unwrap().to_string(), "CHAIN ID:A, Residues: 2");
     assert_eq!(store.residue(1).unwrap().to_string(), "RESIDUE Number:7, InsertionCode:B, Conformers:2");
     assert_eq!(store.conformer(2).unwrap().to_string(), "CONFORMER ID:(\"SER\", Some(\"B\")), Atoms:2");
-    let text = "ATOM ID: CA, Number: 2, Element: C, X: 1.5, Y: 0, Z: 0, OCC: 0, B: 0, ANISOU: false";
+    let text = "ATOM ID: CA, Number: 2, Element: C, X: 1.5, Y: 0, Z: 0, OCC: 1, B: 0, ANISOU: false";
     assert_eq!(store.atom(1).unwrap().to_string(), text);
     let debug = format!("{store:?}");
     assert!(debug.contains("insertion_code: Some(\"B\")") && debug.contains("name: \"OG\"") && !debug.contains("words"), "{debug}");
