@@ -103,8 +103,8 @@ macro_rules! same_bits {
     };
 }
 
-struct Both {
-    store: Store<Vec<u64>>,
+struct Both<'a> {
+    store: Store<&'a [u64]>,
     ours: HashMap<Address, usize>,
     theirs: HashMap<Address, usize>,
 }
@@ -165,9 +165,9 @@ fn two_atoms(a: [&jubrelti::Atom; 2], b: [&pdbtbx::Atom; 2]) {
     assert_eq!(bits(a[0].distance(a[1])), bits(b[0].distance(b[1])), "distance");
 }
 
-impl Both {
-    fn new(words: &[u64], pdb: &PDB) -> Self {
-        let store = Store::from_words(words.to_vec()).unwrap();
+impl<'a> Both<'a> {
+    fn new(words: &'a [u64], pdb: &PDB) -> Self {
+        let store = Store::from_words(words).unwrap();
         let (ours, theirs) = (numbers!(store), numbers!(pdb));
         Both { store, ours, theirs }
     }
