@@ -5,8 +5,8 @@ use crate::random::Random;
 use crate::sides::{self, Sides};
 use crate::{original, plain};
 use jubrelti::Store;
-use pdbtbx::{ContainsAtomConformer, ContainsAtomConformerResidue, ContainsAtomConformerResidueChain, ContainsAtomConformerResidueChainModel};
-use pdbtbx::PDB;
+use pdbtbx::{ContainsAtomConformer, ContainsAtomConformerResidue, PDB};
+use pdbtbx::{ContainsAtomConformerResidueChain, ContainsAtomConformerResidueChainModel};
 use std::collections::HashMap;
 
 searches!(jubrelti);
@@ -23,7 +23,8 @@ pub struct Counts {
 impl Counts {
     pub fn print(&self) {
         println!("reading by the Rust package and by the crate: no disagreement");
-        println!("  structures {}, records {}, finds {}, hits {}, lookups {}", self.structures, self.records, self.finds, self.hits, self.lookups);
+        println!("  structures {}, records {}", self.structures, self.records);
+        println!("  finds {}, hits {}; lookups {}", self.finds, self.hits, self.lookups);
     }
 }
 
@@ -165,6 +166,11 @@ fn two_atoms(a: [&jubrelti::Atom; 2], b: [&pdbtbx::Atom; 2]) {
     assert_eq!(bits(a[0].distance(a[1])), bits(b[0].distance(b[1])), "distance");
 }
 
+// What the package's traits lend; elsewhere its types' own methods are called.
+fn by_traits(hit: &impl jubrelti::ContainsAtomConformerResidueChainModel) -> [Address; 5] {
+    [address(hit.model()), address(hit.chain()), address(hit.residue()), address(hit.conformer()), address(hit.atom())]
+}
+
 impl<'a> Both<'a> {
     fn new(words: &'a [u64], pdb: &PDB) -> Self {
         let store = Store::from_words(words).unwrap();
@@ -244,22 +250,9 @@ impl<'a> Both<'a> {
 
     // The record numbers and positions that a hit tells, against those of the crate's parts.
     fn hit(&self, ours: &jubrelti::Hit, theirs: &pdbtbx::AtomConformerResidueChainModel, positions: &HashMap<Address, [usize; 5]>) {
-        let of = |part: Address| self.theirs[&part];
-        let records = [
-            of(address(theirs.model())),
-            of(address(theirs.chain())),
-            of(address(theirs.residue())),
-            of(address(theirs.conformer())),
-            of(address(theirs.atom())),
-        ];
-        let of = |part: Address| self.ours[&part];
-        let parts = [
-            of(address(ours.model())),
-            of(address(ours.chain())),
-            of(address(ours.residue())),
-            of(address(ours.conformer())),
-            of(address(ours.atom())),
-        ];
+        let (m, c, r, f, a) = (theirs.model(), theirs.chain(), theirs.residue(), theirs.conformer(), theirs.atom());
+        let records = [address(m), address(c), address(r), address(f), address(a)].map(|part| self.theirs[&part]);
+        let parts = by_traits(ours).map(|part| self.ours[&part]);
         assert_eq!((ours.records(), parts), (records, records), "the records of a hit");
         assert_eq!(ours.position(), positions[&address(theirs.atom())], "the position of a hit");
         same!(ours.model(), theirs.model(); serial_number);
