@@ -115,8 +115,8 @@ macro_rules! same_lists {
     ($both:expr, $ours:expr, $theirs:expr; $($many:ident $one:ident),*) => {$(
         let of_ours = |part: &_| $both.ours[&address(part)];
         let of_theirs = |part: &_| $both.theirs[&address(part)];
-        let lists = orders!($ours.$many(), |part| $both.ours[&address(part)]);
-        assert_eq!(lists, orders!($theirs.$many(), |part| $both.theirs[&address(part)]), stringify!($many));
+        let lists = orders!($ours.$many(), of_ours);
+        assert_eq!(lists, orders!($theirs.$many(), of_theirs), stringify!($many));
         for i in (0..lists[0].len() + 2).chain([usize::MAX]) {
             assert_eq!($ours.$one(i).map(of_ours), $theirs.$one(i).map(of_theirs), "{} {i}", stringify!($one));
         }
