@@ -66,7 +66,8 @@ class Library(unittest.TestCase):
             shutil.copytree(HERE / "jubrelti", Path(folder) / "a" / "b" / "jubrelti")
             code = "import jubrelti._library as l; print(l._LIBRARY._name)"
             loaded = run(code, Path(folder) / "a" / "b", LD_LIBRARY_PATH=str(Path(_library._LIBRARY._name).parent))
-            self.assertEqual(loaded.stdout.strip(), _library.FILE, loaded.stderr)
+            # The loader knows the library by its soname, which ends in the version.
+            self.assertTrue(loaded.stdout.startswith(_library.FILE), loaded.stderr)
             missing = run(code, Path(folder) / "a" / "b", LD_LIBRARY_PATH="")
             self.assertIn("ImportError: libjubrelti.so isn't in ", missing.stderr)
 
