@@ -9,6 +9,9 @@ pub mod Find
 pub mod Edit
 pub mod Lookup
 pub mod Program
+pub mod Rounding
+pub mod Lines
 pub mod Demand
 pub mod Cases
 pub mod Examples
+pub mod LineExamples

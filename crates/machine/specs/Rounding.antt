@@ -1,0 +1,26 @@
+-- Change request §1, "PDB lines out": f64 values rounded to decimals. Assumes nothing.
+use Prim.Native.Nat.{ℕ, suc, _*_, _/_, _%_, _^_}
+use mathlib.Core.Bool.{cond}
+use lib.Dec.{ltb}
+use lib.Ieee.{Float, nan, inf, fin, binary64, up, down, ofBits}
+
+-- "halves away from zero": what a value exactly halfway between q and q + 1 becomes
+abbrev pub atHalf : ℕ → ℕ
+atHalf q = suc q
+
+-- the whole number nearest to a / b: the quotient or the next, by how twice the remainder compares with the divisor
+unfoldable pub nearestWhole : ℕ → ℕ → ℕ
+nearestWhole a b =
+    let q = a / b in
+    let r = a % b in
+    cond (ltb (r * 2) b) q (cond (ltb b (r * 2)) (suc q) (atHalf q))
+
+-- "from the exact value of the f64": its size, m * up e / down e, in units of 1 / unit, as a whole number of them
+unfoldable pub inUnits : ℕ → Float → ℕ
+inUnits unit nan = 0
+inUnits unit (inf s) = 0
+inUnits unit (fin s m e) = nearestWhole (m * up e * unit) (down e)
+
+-- an f64, given by its bits, to d decimals: this many times 10 ^ -d, its sign aside
+abbrev pub rounded : ℕ → ℕ → ℕ
+rounded d b = inUnits (10 ^ d) (ofBits binary64 b)
