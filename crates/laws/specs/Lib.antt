@@ -11,5 +11,7 @@ pub mod Trees
 pub mod Windows
 pub mod Scan
 pub mod Numbers
+pub mod Floats
+pub mod Rounding
 pub mod Places
 pub mod Steps

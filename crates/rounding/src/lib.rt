@@ -1,0 +1,61 @@
+// f64 values, given by their bits, rounded to a whole number of units.
+ghost use mathlib.Core.Path.{_≡_};
+ghost use mathlib.Core.Bool.{true};
+ghost use Prim.Native.Nat.{_^_, _≤_, _<_, min};
+ghost use lib.Ieee.{binary64, ofBits};
+ghost use Rattle.machine.specs.Record.{finite};
+ghost use Rattle.machine.specs.Rounding.{atHalf, nearestWhole, inUnits};
+
+// The first number of units that no columns hold.
+pub const WIDE: u64 = 10_000_000;
+
+// "halves away from zero"
+fn at_half(q: u64) -> u64
+    requires { ⌜ q < 0x8000_0000_0000_0000 ⌝ }
+    ensures { λ r. ⌜ r ≡ atHalf q ⌝ }
+{
+    q + 1
+}
+
+fn power(k: u64) -> u64
+    requires { ⌜ k ≤ 63 ⌝ }
+    ensures { λ r. ⌜ (r ≡ 2 ^ k) × (1 ≤ r) ⌝ }
+{
+    1u64 << k
+}
+
+// The whole number nearest to a / 2^k.
+fn nearest_whole(a: u64, k: u64) -> u64
+    requires { ⌜ (k ≤ 63) × (a < 0x8000_0000_0000_0000) ⌝ }
+    ensures { λ r. ⌜ r ≡ nearestWhole a (2 ^ k) ⌝ }
+{
+    let unit = power(k);
+    let q = a / unit;
+    let twice = (a % unit) * 2;
+    if twice < unit {
+        return q;
+    }
+    if unit < twice {
+        return q + 1;
+    }
+    at_half(q)
+}
+
+// The size of an f64 in units of 1 / unit, rounded to a whole number where that is below WIDE; else WIDE. A value whose exponent's
+// field is below 1012 is less than half a unit, and one above 1074 is at least 2^52.
+pub fn in_units(bits: u64, unit: u64) -> u64
+    requires { ⌜ (1 ≤ unit) × (unit ≤ 1000) × (finite bits ≡ true) ⌝ }
+    ensures { λ r. ⌜ r ≡ min (inUnits unit (ofBits binary64 bits)) 10000000 ⌝ }
+{
+    let magnitude = bits % 0x8000_0000_0000_0000;
+    let field = magnitude / 0x0010_0000_0000_0000;
+    if field < 1012 {
+        return 0;
+    }
+    if 1074 < field {
+        return WIDE;
+    }
+    let digits = 0x0010_0000_0000_0000 + magnitude % 0x0010_0000_0000_0000;
+    let n = nearest_whole(digits * unit, 1075 - field);
+    if n < WIDE { n } else { WIDE }
+}
