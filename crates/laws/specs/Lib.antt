@@ -13,5 +13,9 @@ pub mod Scan
 pub mod Numbers
 pub mod Floats
 pub mod Rounding
+pub mod Digits
+pub mod Width
+pub mod Columns
+pub mod Flat
 pub mod Places
 pub mod Steps
