@@ -1,108 +1,192 @@
--- The lines of a machine are what one pass over its records writes, an atom's chain, residue and conformer being the last ones seen.
--- Assumes nothing.
+-- The lines of a machine are what one pass over its records gives, an atom's chain, residue and conformer being the last ones seen; and how
+-- long the text is. Assumes nothing.
+use Prim.Native.Nat.{ℕ, zero, suc, _+_, _*_, _≤_}
 use mathlib.Core.Path.{_≡_, refl, sym, ap, _∙_}
 use mathlib.Core.Bool.{Bool, true, false, cond}
-use mathlib.Core.List.{List, [], _∷_, _++_, map, append-assoc, append-nil}
+use mathlib.Core.List.{List, [], _∷_, _++_, map, map-append, append-assoc, append-nil}
+use native.Mathlib.Nat.{zero-add}
+use native.Mathlib.Omega.{arith}
+use lib.ListN.{length, length-append}
 use lib.Dec.{eqb}
-use Rattle.machine.specs.Lists.{concatMap}
+use borrow.Author.Tests.{ne-eqb}
+use Rattle.machine.specs.Lists.{all, sum, concatMap}
 use Rattle.machine.specs.Record.{Chain, Residue, Conformer, Atom, Words, words, kind, fieldsOf}
-use Rattle.machine.specs.Store.{Branch, Machine, flat, records}
-use Rattle.machine.specs.Lines.{Column, AtomLine, entryOf, entryLines, linesOf, atomColumns, modelColumns, endColumns}
+use Rattle.machine.specs.Store.{Branch, Machine, flat, records, atomCount, stored}
+use Rattle.machine.specs.Lines.{Column, columnText, fitting, lineOf, AtomLine, atomColumns, modelColumns, endColumns, Entry, entryLines, entryOf, linesOf, writable, machineText}
+use Rattle.laws.specs.Lists.{and-both, All, All-append, sum-append, sum-concatMap}
+use Rattle.laws.specs.Grouped.{words-kind}
+use Rattle.laws.specs.Columns.{width, columns-length}
 
-map-append : {A B : Type 0} (f : A → B) (xs ys : List A) → map f (xs ++ ys) ≡ map f xs ++ map f ys
-map-append f [] ys = refl
-map-append f (x ∷ xs) ys = ap (λ (z : List _). f x ∷ z) (map-append f xs ys)
+-- ---- the pass
 
-abbrev lineAt : Chain → Residue → Conformer → Atom → AtomLine
-lineAt c r f a = record { chain = c; residue = r; conformer = f; atom = a }
+-- what an atom stands under
+pub record Parents : Type 0 where
+  pub chain : Chain
+  pub residue : Residue
+  pub conformer : Conformer
+
+-- what the atoms after a record stand under, given what those before it did. A model changes nothing: its chains follow it
+unfoldable pub entered : Words → Parents → Parents
+entered r p =
+    cond (eqb (kind r) 2) (record { chain = fieldsOf 3 r; residue = p .residue; conformer = p .conformer })
+    (cond (eqb (kind r) 3) (record { chain = p .chain; residue = fieldsOf 2 r; conformer = p .conformer })
+    (cond (eqb (kind r) 4) (record { chain = p .chain; residue = p .residue; conformer = fieldsOf 1 r })
+    p))
+
+abbrev pub lineUnder : Parents → Atom → AtomLine
+lineUnder p a = record { chain = p .chain; residue = p .residue; conformer = p .conformer; atom = a }
 
 -- ENDMDL of the model before, where there is one
-abbrev ended : Bool → List (List Column)
+abbrev pub ended : Bool → List (List Column)
 ended b = cond b (endColumns ∷ []) []
 
--- the lines from a record on; b says that a model was begun
-unfoldable pub flatLines : Bool → Chain → Residue → Conformer → List Words → List (List Column)
-flatLines b c r f [] = ended b
-flatLines b c r f (w ∷ ws) =
-    cond (eqb (kind w) 5) (atomColumns (lineAt c r f (fieldsOf 0 w)) ∷ flatLines b c r f ws)
-    (cond (eqb (kind w) 4) (flatLines b c r (fieldsOf 1 w) ws)
-    (cond (eqb (kind w) 3) (flatLines b c (fieldsOf 2 w) f ws)
-    (cond (eqb (kind w) 2) (flatLines b (fieldsOf 3 w) r f ws)
-    (ended b ++ (modelColumns (fieldsOf 4 w) ∷ flatLines true c r f ws)))))
+-- what a record gives; b says that records stand before it, so that a model was begun
+unfoldable pub recordLines : Bool → Parents → Words → List (List Column)
+recordLines b p r =
+    cond (eqb (kind r) 5) (atomColumns (lineUnder p (fieldsOf 0 r)) ∷ [])
+    (cond (eqb (kind r) 1) (ended b ++ (modelColumns (fieldsOf 4 r) ∷ [])) [])
 
-module _ (b : Bool) where
-  atoms-flat : (c : Chain) (r : Residue) (f : Conformer) (xs : List Atom) (rest : List Words)
-      → flatLines b c r f (concatMap (flat 0) xs ++ rest) ≡ map atomColumns (map (lineAt c r f) xs) ++ flatLines b c r f rest
-  unfolding flatLines flat words fieldsOf
-  atoms-flat c r f [] rest = refl
-  atoms-flat c r f (x ∷ xs) rest = ap (λ (z : List (List Column)). atomColumns (lineAt c r f x) ∷ z) (atoms-flat c r f xs rest)
+unfoldable pub flatLines : Bool → Parents → List Words → List (List Column)
+flatLines b p [] = ended b
+flatLines b p (r ∷ rs) = recordLines b p r ++ flatLines true (entered r p) rs
 
-  abbrev ofConformers : Chain → Residue → List (Branch 1) → List AtomLine
-  ofConformers c r fs = concatMap (λ f. map (lineAt c r (f .0)) (f .1)) fs
+-- a pass over rs and a rest, begun at p, gives the lines ls, and what is left of it starts with parents that are in P
+record Gives (P : Parents → Type 0) (p : Parents) (rs : List Words) (ls : List AtomLine) (rest : List Words) : Type 0 where
+  after : Parents
+  stays : P after
+  lines : flatLines true p (rs ++ rest) ≡ map atomColumns ls ++ flatLines true after rest
 
-  conformers-flat : (c : Chain) (r : Residue) (f : Conformer) (fs : List (Branch 1)) (rest : List Words)
-      → (f′ : Conformer) × (flatLines b c r f (concatMap (flat 1) fs ++ rest) ≡ map atomColumns (ofConformers c r fs) ++ flatLines b c r f′ rest)
-  unfolding flatLines flat words fieldsOf
-  conformers-flat c r f [] rest = (f, refl)
-  conformers-flat c r f (g ∷ fs) rest =
-      let more = conformers-flat c r (g .0) fs rest in (
-        more .0,
-        ap (flatLines b c r (g .0)) (append-assoc (concatMap (flat 0) (g .1)) (concatMap (flat 1) fs) rest)
-            ∙ atoms-flat c r (g .0) (g .1) (concatMap (flat 1) fs ++ rest)
-            ∙ ap (λ (z : List (List Column)). map atomColumns (map (lineAt c r (g .0)) (g .1)) ++ z) (more .1)
-            ∙ sym (append-assoc (map atomColumns (map (lineAt c r (g .0)) (g .1))) (map atomColumns (ofConformers c r fs)) (flatLines b c r (more .0) rest))
-            ∙ ap (λ (z : List (List Column)). z ++ flatLines b c r (more .0) rest) (sym (map-append atomColumns (map (lineAt c r (g .0)) (g .1)) (ofConformers c r fs))),
-      )
+abbrev Giving : (Parents → Type 0) → List Words → List AtomLine → Type 0
+Giving P rs ls = (p : Parents) → P p → (rest : List Words) → Gives P p rs ls rest
 
-  abbrev ofResidues : Chain → List (Branch 2) → List AtomLine
-  ofResidues c rs = concatMap (λ r. ofConformers c (r .0) (r .1)) rs
+siblings : {A : Type 0} (P : Parents → Type 0) (f : A → List Words) (g : A → List AtomLine) → ((x : A) → Giving P (f x) (g x)) → (xs : List A) → Giving P (concatMap f xs) (concatMap g xs)
+siblings P f g h [] p i rest = record { after = p; stays = i; lines = refl }
+siblings P f g h (x ∷ xs) p i rest =
+    let a = h x p i (concatMap f xs ++ rest) in
+    let b = siblings P f g h xs (a .after) (a .stays) rest in
+    record { after = b .after; stays = b .stays; lines = rw (append-assoc (f x), a .lines, b .lines, map-append, append-assoc) }
 
-  residues-flat : (c : Chain) (r : Residue) (f : Conformer) (rs : List (Branch 2)) (rest : List Words)
-      → (r′ : Residue) × (f′ : Conformer) × (flatLines b c r f (concatMap (flat 2) rs ++ rest) ≡ map atomColumns (ofResidues c rs) ++ flatLines b c r′ f′ rest)
-  unfolding flatLines flat words fieldsOf
-  residues-flat c r f [] rest = (r, f, refl)
-  residues-flat c r f (g ∷ rs) rest =
-      let here = conformers-flat c (g .0) f (g .1) (concatMap (flat 2) rs ++ rest) in
-      let more = residues-flat c (g .0) (here .0) rs rest in (
-        more .0,
-        more .1,
-        ap (flatLines b c (g .0) f) (append-assoc (concatMap (flat 1) (g .1)) (concatMap (flat 2) rs) rest)
-            ∙ here .1
-            ∙ ap (λ (z : List (List Column)). map atomColumns (ofConformers c (g .0) (g .1)) ++ z) (more .2)
-            ∙ sym (append-assoc (map atomColumns (ofConformers c (g .0) (g .1))) (map atomColumns (ofResidues c rs)) (flatLines b c (more .0) (more .1) rest))
-            ∙ ap (λ (z : List (List Column)). z ++ flatLines b c (more .0) (more .1) rest) (sym (map-append atomColumns (ofConformers c (g .0) (g .1)) (ofResidues c rs))),
-      )
+-- a record without lines, and what stands below it
+parent : (P Q : Parents → Type 0) (r : Words) (rs : List Words) (ls : List AtomLine) → ((p : Parents) → recordLines true p r ≡ [])
+    → ((p : Parents) → P p → Q (entered r p)) → ((p : Parents) → Q p → P p) → Giving Q rs ls → Giving P (r ∷ rs) ls
+unfolding flatLines
+parent P Q r rs ls none enter leave below p i rest =
+    let a = below (entered r p) (enter p i) rest in
+    record { after = a .after; stays = leave (a .after) (a .stays); lines = rw (none p) (a .lines) }
 
-  abbrev ofChains : List (Branch 3) → List AtomLine
-  ofChains cs = concatMap (λ c. ofResidues (c .0) (c .1)) cs
+-- which parents stay, below each level
+abbrev OfChain : Chain → Parents → Type 0
+OfChain c p = p .chain ≡ c
 
-  chains-flat : (c : Chain) (r : Residue) (f : Conformer) (cs : List (Branch 3)) (rest : List Words)
-      → (c′ : Chain) × (r′ : Residue) × (f′ : Conformer) × (flatLines b c r f (concatMap (flat 3) cs ++ rest) ≡ map atomColumns (ofChains cs) ++ flatLines b c′ r′ f′ rest)
-  unfolding flatLines flat words fieldsOf
-  chains-flat c r f [] rest = (c, r, f, refl)
-  chains-flat c r f (g ∷ cs) rest =
-      let here = residues-flat (g .0) r f (g .1) (concatMap (flat 3) cs ++ rest) in
-      let more = chains-flat (g .0) (here .0) (here .1) cs rest in (
-        more .0,
-        more .1,
-        more .2,
-        ap (flatLines b (g .0) r f) (append-assoc (concatMap (flat 2) (g .1)) (concatMap (flat 3) cs) rest)
-            ∙ here .2
-            ∙ ap (λ (z : List (List Column)). map atomColumns (ofResidues (g .0) (g .1)) ++ z) (more .3)
-            ∙ sym (append-assoc (map atomColumns (ofResidues (g .0) (g .1))) (map atomColumns (ofChains cs)) (flatLines b (more .0) (more .1) (more .2) rest))
-            ∙ ap (λ (z : List (List Column)). z ++ flatLines b (more .0) (more .1) (more .2) rest) (sym (map-append atomColumns (ofResidues (g .0) (g .1)) (ofChains cs))),
-      )
+abbrev OfResidue : Chain → Residue → Parents → Type 0
+OfResidue c r p = (p .chain ≡ c) × (p .residue ≡ r)
 
-models-flat : (b : Bool) (c : Chain) (r : Residue) (f : Conformer) (ts : Machine) → flatLines b c r f (records ts) ≡ ended b ++ linesOf (map entryOf ts)
-unfolding flatLines flat words fieldsOf entryLines entryOf
-models-flat b c r f [] = sym (append-nil (ended b))
-models-flat b c r f (t ∷ ts) =
-    let here = chains-flat true c r f (t .1) (records ts) in
-    ap (λ (z : List (List Column)). ended b ++ (modelColumns (t .0) ∷ z))
-    (here .3
-    ∙ ap (λ (z : List (List Column)). map atomColumns (ofChains true (t .1)) ++ z) (models-flat true (here .0) (here .1) (here .2) ts)
-    ∙ sym (append-assoc (map atomColumns (ofChains true (t .1))) (endColumns ∷ []) (linesOf (map entryOf ts))))
+abbrev OfConformer : Parents → Parents → Type 0
+OfConformer q p = p ≡ q
 
--- whatever chain, residue and conformer the pass starts with
-pub lines-flat : (c : Chain) (r : Residue) (f : Conformer) (m : Machine) → flatLines false c r f (records m) ≡ linesOf (map entryOf m)
-lines-flat c r f m = models-flat false c r f m
+atoms-pass : (q : Parents) (as′ : List Atom) → Giving (OfConformer q) (concatMap (flat 0) as′) (map (lineUnder q) as′)
+unfolding flatLines recordLines entered flat words fieldsOf
+atoms-pass q [] p i rest = record { after = p; stays = i; lines = refl }
+atoms-pass q (a ∷ as′) p i rest =
+    let b = atoms-pass q as′ p i rest in
+    record {
+      after = b .after;
+      stays = b .stays;
+      lines = ap (λ (z : Parents). atomColumns (lineUnder z a) ∷ flatLines true p (concatMap (flat 0) as′ ++ rest)) i ∙ ap (λ (z : List (List Column)). atomColumns (lineUnder q a) ∷ z) (b .lines);
+    }
+
+conformer-pass : (c : Chain) (r : Residue) (t : Branch 1) → Giving (OfResidue c r) (flat 1 t) (map (λ a. record { chain = c; residue = r; conformer = t .0; atom = a }) (t .1))
+unfolding recordLines entered flat words fieldsOf
+conformer-pass c r t =
+    let q : Parents = record { chain = c; residue = r; conformer = t .0 } in
+    parent (OfResidue c r) (OfConformer q) _ _ _ (λ p. refl) (λ p i j. record { chain = i .0 j; residue = i .1 j; conformer = t .0 }) (λ p i. (ap (λ (z : Parents). z .chain) i, ap (λ (z : Parents). z .residue) i)) (atoms-pass q (t .1))
+
+residue-pass : (c : Chain) (t : Branch 2) → Giving (OfChain c) (flat 2 t) (concatMap (λ f. map (λ a. record { chain = c; residue = t .0; conformer = f .0; atom = a }) (f .1)) (t .1))
+unfolding recordLines entered flat words fieldsOf
+residue-pass c t =
+    parent (OfChain c) (OfResidue c (t .0)) _ _ _ (λ p. refl) (λ p i. (i, refl)) (λ p i. i .0) (siblings (OfResidue c (t .0)) (flat 1) _ (conformer-pass c (t .0)) (t .1))
+
+chain-pass : (t : Branch 3) → Giving (λ p. Unit {0}) (flat 3 t) (concatMap (λ r. concatMap (λ f. map (λ a. record { chain = t .0; residue = r .0; conformer = f .0; atom = a }) (f .1)) (r .1)) (t .1))
+unfolding recordLines entered flat words fieldsOf
+chain-pass t =
+    parent (λ p. Unit {0}) (OfChain (t .0)) _ _ _ (λ p. refl) (λ p i. refl) (λ p i. tt) (siblings (OfChain (t .0)) (flat 2) _ (residue-pass (t .0)) (t .1))
+
+models-pass : (b : Bool) (p : Parents) (m : Machine) → flatLines b p (records m) ≡ ended b ++ linesOf (map entryOf m)
+unfolding flatLines recordLines entered flat words fieldsOf entryLines entryOf
+models-pass b p [] = sym (append-nil (ended b))
+models-pass b p (t ∷ ts) =
+    let a = siblings (λ q. Unit {0}) (flat 3) _ chain-pass (t .1) p tt (records ts) in
+    rw (a .lines, models-pass true (a .after) ts, append-assoc (ended b), append-assoc (map atomColumns (entryOf t .atoms)))
+
+-- the pass gives the lines of the machine, whatever parents it starts with
+pub lines-flat : (p : Parents) (m : Machine) → flatLines false p (records m) ≡ linesOf (map entryOf m)
+lines-flat p m = models-pass false p m
+
+-- ---- the text's length
+
+-- "every line has 80 columns and a newline"
+abbrev Eighty : List Column → Type 0
+Eighty cs = sum width cs ≡ 80
+
+line-length : (cs : List Column) → Eighty cs → all fitting cs ≡ true → length (lineOf cs) ≡ 81
+line-length cs e h = omega (arith, length-append (concatMap columnText cs) (10 ∷ []), columns-length cs h)
+
+lines-length : (ls : List (List Column)) → All Eighty ls → all (all fitting) ls ≡ true → length (concatMap lineOf ls) ≡ 81 * length ls
+lines-length [] e h = refl
+lines-length (cs ∷ ls) e h =
+    let b = and-both (all fitting cs) (all (all fitting) ls) h in
+    omega (arith, length-append (lineOf cs) (concatMap lineOf ls), line-length cs (e .0) (b .0), lines-length ls (e .1) (b .1))
+
+atoms-eighty : (ls : List AtomLine) → All Eighty (map atomColumns ls)
+unfolding atomColumns
+atoms-eighty [] = tt
+atoms-eighty (l ∷ ls) = (refl, atoms-eighty ls)
+
+entries-eighty : (es : List Entry) → All Eighty (linesOf es)
+unfolding entryLines modelColumns
+entries-eighty [] = tt
+entries-eighty (e ∷ es) =
+    All-append Eighty (entryLines e) (linesOf es) (refl, All-append Eighty (map atomColumns (e .atoms)) (endColumns ∷ []) (atoms-eighty (e .atoms)) (refl, tt)) (entries-eighty es)
+
+-- how many lines a record makes: a model makes MODEL and ENDMDL
+unfoldable pub lineCount : Words → ℕ
+lineCount r = cond (eqb (kind r) 5) 1 (cond (eqb (kind r) 1) 2 0)
+
+record-count : (p : Parents) (r : Words) → length (recordLines true p r) ≡ lineCount r
+unfolding recordLines lineCount
+record-count p r = go (eqb (kind r) 5) (eqb (kind r) 1)
+  where
+    go : (a b : Bool) → length (cond a (atomColumns (lineUnder p (fieldsOf 0 r)) ∷ []) (cond b (ended true ++ (modelColumns (fieldsOf 4 r) ∷ [])) [])) ≡ cond a 1 (cond b 2 0)
+    go true b = refl
+    go false true = refl
+    go false false = refl
+
+begun-count : (p : Parents) (rs : List Words) → length (flatLines true p rs) ≡ suc (sum lineCount rs)
+unfolding flatLines
+begun-count p [] = refl
+begun-count p (r ∷ rs) =
+    omega (arith, length-append (recordLines true p r) (flatLines true (entered r p) rs), record-count p r, begun-count (entered r p) rs)
+
+lines-count : (p : Parents) (m : Machine) → length (flatLines false p (records m)) ≡ sum lineCount (records m)
+unfolding flatLines recordLines entered lineCount flat words
+lines-count p [] = refl
+lines-count p (t ∷ ts) = omega (arith, begun-count p (concatMap (flat 3) (t .1) ++ records ts))
+
+branch-count : (k : ℕ) → k ≤ 3 → (t : Branch k) → sum lineCount (flat k t) ≡ atomCount k t
+unfolding lineCount flat atomCount
+branch-count zero l t = rw (words-kind zero (omega arith) t)
+branch-count (suc k) l t =
+    let n = words-kind (suc k) (omega arith) (t .0) in
+    rw (ne-eqb (kind (words (suc k) (t .0))) 5 (λ q. omega arith), ne-eqb (kind (words (suc k) (t .0))) 1 (λ q. omega arith), zero-add)
+    (sum-concatMap lineCount (flat k) (atomCount k) (branch-count k (omega arith)) (t .1))
+
+pub lines-stored : (m : Machine) → sum lineCount (records m) ≡ 2 * length m + stored m
+unfolding lineCount flat words atomCount
+lines-stored [] = refl
+lines-stored (t ∷ ts) =
+    omega (arith, sum-append lineCount (concatMap (flat 3) (t .1)) (records ts), sum-concatMap lineCount (flat 3) (atomCount 3) (branch-count 3 (omega arith)) (t .1), lines-stored ts)
+
+pub text-length : (m : Machine) → writable (map entryOf m) ≡ true → length (machineText m) ≡ 81 * (2 * length m + stored m)
+text-length m h =
+    let p : Parents = record { chain = record { id = 0 }; residue = record { serial = 0; code = 0 }; conformer = record { name = 0; location = 0 } } in
+    omega (arith, lines-length (linesOf (map entryOf m)) (entries-eighty (map entryOf m)) h, ap length (lines-flat p m), lines-count p m, lines-stored m)

@@ -1,6 +1,6 @@
 -- Laws of Bool tests, of what may be missing, and of lists, for the other laws. Assumes nothing.
 use Prim.Native.Nat.{ℕ, _+_}
-use mathlib.Core.Path.{_≡_, refl}
+use mathlib.Core.Path.{_≡_, refl, _∙_}
 use mathlib.Core.Bool.{Bool, true, false, _&&_, false≢true}
 use mathlib.Core.Option.{Option, none, some}
 use mathlib.Core.List.{List, [], _∷_, _++_, map, append-assoc}
@@ -88,3 +88,7 @@ module _ {A B : Type 0} where
   pub length-concatMap : (f : A → List B) (xs : List A) → length (concatMap f xs) ≡ sum (λ x. length (f x)) xs
   length-concatMap f [] = refl
   length-concatMap f (x ∷ xs) = let e = length-concatMap f xs in omega (arith, length-append (f x) (concatMap f xs))
+
+pub sum-concatMap : {A B : Type 0} (f : B → ℕ) (g : A → List B) (h : A → ℕ) → ((x : A) → sum f (g x) ≡ h x) → (xs : List A) → sum f (concatMap g xs) ≡ sum h xs
+sum-concatMap f g h e [] = refl
+sum-concatMap f g h e (x ∷ xs) = sum-append f (g x) (concatMap g xs) ∙ rw (e x, sum-concatMap f g h e xs)

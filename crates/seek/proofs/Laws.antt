@@ -17,7 +17,7 @@ use Rattle.machine.specs.Store.{Branch, Machine, flat, records, atomCount, stor
 use Rattle.machine.specs.Find.{size}
 use Rattle.machine.specs.Lookup.{numbered}
 use Rattle.machine.specs.Edit.{up, branchAt, replaceAt}
-use Rattle.laws.specs.Lists.{and-then, sum-append, concatMap-append}
+use Rattle.laws.specs.Lists.{and-then, concatMap-append, sum-concatMap}
 use Rattle.laws.specs.Grouped.{words-kind, group-flats, chunks-length}
 use Rattle.laws.specs.Layout.{records-read, read-parts}
 use Rattle.laws.specs.Places.{Around, Spot}
@@ -258,10 +258,6 @@ span-inj (suc d) j (i ∷ is) (l ∷ ls) n ts a b c lp lq e f =
     λ k. x k ∷ y k
 
 -- ---- atoms
-
-sum-concatMap : {A : Type 0} (f : Words → ℕ) (g : A → List Words) (h : A → ℕ) → ((x : A) → sum f (g x) ≡ h x) → (xs : List A) → sum f (concatMap g xs) ≡ sum h xs
-sum-concatMap f g h e [] = refl
-sum-concatMap f g h e (x ∷ xs) = sum-append f (g x) (concatMap g xs) ∙ rw (e x, sum-concatMap f g h e xs)
 
 pub atoms-branch : (k : ℕ) → k ≤ 4 → (t : Branch k) → atomRecords (flat k t) ≡ atomCount k t
 unfolding atomRecords flat atomCount
