@@ -1,7 +1,7 @@
 -- Laws of Bool tests, of what may be missing, and of lists, for the other laws. Assumes nothing.
 use Prim.Native.Nat.{ℕ, _+_}
 use mathlib.Core.Path.{_≡_, refl, _∙_}
-use mathlib.Core.Bool.{Bool, true, false, _&&_, false≢true}
+use mathlib.Core.Bool.{Bool, true, false, _&&_, false≢true, and-assoc}
 use mathlib.Core.Option.{Option, none, some}
 use mathlib.Core.List.{List, [], _∷_, _++_, map, append-assoc}
 use native.Mathlib.Omega.{arith}
@@ -47,6 +47,10 @@ module _ {A : Type 0} where
   pub all-of : (p : A → Bool) (xs : List A) → All (λ x. p x ≡ true) xs → all p xs ≡ true
   all-of p [] h = refl
   all-of p (x ∷ xs) h = rw (h .0) (all-of p xs (h .1))
+
+  pub all-split : (p : A → Bool) (xs ys : List A) → all p (xs ++ ys) ≡ (all p xs && all p ys)
+  all-split p [] ys = refl
+  all-split p (x ∷ xs) ys = rw (all-split p xs ys, and-assoc (p x) (all p xs) (all p ys))
 
   pub All-map : {P Q : A → Type 0} → ((x : A) → P x → Q x) → (xs : List A) → All P xs → All Q xs
   All-map f [] h = tt

@@ -1,7 +1,7 @@
 -- Laws of the rules for identifiers and of texts as given. Assumes nothing.
 use Prim.Native.Nat.{ℕ, _-_, _≤_}
 use mathlib.Core.Path.{_≡_, refl, sym, ap, _∙_}
-use mathlib.Core.Bool.{Bool, true, false, not, _&&_, cond, false≢true, and-false, and-true, and-assoc, and-comm}
+use mathlib.Core.Bool.{Bool, true, false, not, _&&_, cond, false≢true, and-false, and-true, and-comm}
 use mathlib.Core.List.{List, [], _∷_, _++_, map, reverse, reverse-cons, reverse-append, reverse-reverse, map-append}
 use native.Mathlib.Omega.{arith}
 use lib.ListN.{length}
@@ -11,19 +11,15 @@ use Rattle.machine.specs.Lists.{all, isEmpty, same}
 use Rattle.machine.specs.Text.{pack, textOf, plain, blank, toUpper, trimStart, trim, fit, chainId, uppercaseOr, insertionCode, conformerName, alternativeLocation, atomName, storedBy, matches, packedText}
 use Rattle.machine.specs.declared.Prepared.{Prepared}
 use Rattle.machine.specs.declared.Prepared.the-variants.{Stored, Absent, Bad}
-use Rattle.laws.specs.Lists.{and-both, same-true, same-refl}
+use Rattle.laws.specs.Lists.{and-both, same-true, same-refl, all-split}
 use Rattle.laws.specs.Packing.{pack-textOf, textOf-pack, length-textOf, both-ways}
 
 -- ---- trimming and raising
 
 module _ {A : Type 0} (p : A → Bool) where
-  all-append : (s t : List A) → all p (s ++ t) ≡ (all p s && all p t)
-  all-append [] t = refl
-  all-append (x ∷ xs) t = rw (all-append xs t, and-assoc (p x) (all p xs) (all p t))
-
   all-reverse : (t : List A) → all p (reverse t) ≡ all p t
   all-reverse [] = refl
-  all-reverse (x ∷ xs) = rw (reverse-cons, all-append, all-reverse xs, and-true) (and-comm (all p xs) (p x))
+  all-reverse (x ∷ xs) = rw (reverse-cons, all-split, all-reverse xs, and-true) (and-comm (all p xs) (p x))
 
 trimStart-twice : (t : List ℕ) → trimStart (trimStart t) ≡ trimStart t
 unfolding trimStart

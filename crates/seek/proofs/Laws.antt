@@ -10,7 +10,7 @@ use lib.ListN.{length, length-append}
 use lib.Seq.{take-at, drop-at}
 use lib.Dec.{eqb}
 use borrow.Author.Tests.{ne-eqb}
-use Rattle.machine.specs.Lists.{sum, concatMap, nth, andThen}
+use Rattle.machine.specs.Lists.{concatMap, nth, andThen}
 use Rattle.machine.specs.Answer.{ok}
 use Rattle.machine.specs.Record.{Words, words, kind}
 use Rattle.machine.specs.Store.{Branch, Machine, flat, records, atomCount, stored, end, group, readStore}
