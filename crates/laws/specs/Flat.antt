@@ -40,7 +40,7 @@ lineUnder p a = record { chain = p .chain; residue = p .residue; conformer = p .
 abbrev pub ended : Bool → List (List Column)
 ended b = cond b (endColumns ∷ []) []
 
--- what a record gives; b says that records stand before it, so that a model was begun
+-- what a record gives. b says that records stand before it: the first one is a model, so that then a model was begun
 unfoldable pub recordLines : Bool → Parents → Words → List (List Column)
 recordLines b p r =
     cond (eqb (kind r) 5) (atomColumns (lineUnder p (fieldsOf 0 r)) ∷ [])
@@ -50,7 +50,7 @@ unfoldable pub flatLines : Bool → Parents → List Words → List (List Column
 flatLines b p [] = ended b
 flatLines b p (r ∷ rs) = recordLines b p r ++ flatLines true (entered r p) rs
 
--- a pass over rs and a rest, begun at p, gives the lines ls, and what is left of it starts with parents that are in P
+-- a pass over rs and a rest, from p on: rs gives the lines ls, and the rest is passed from parents of which P holds
 record Gives (P : Parents → Type 0) (p : Parents) (rs : List Words) (ls : List AtomLine) (rest : List Words) : Type 0 where
   after : Parents
   stays : P after
@@ -74,7 +74,7 @@ parent P Q r rs ls none enter leave below p i rest =
     let a = below (entered r p) (enter p i) rest in
     record { after = a .after; stays = leave (a .after) (a .stays); lines = rw (none p) (a .lines) }
 
--- which parents stay, below each level
+-- what holds of the parents among the children of a chain, of a residue and of a conformer
 abbrev OfChain : Chain → Parents → Type 0
 OfChain c p = p .chain ≡ c
 
