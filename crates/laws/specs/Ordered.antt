@@ -119,7 +119,7 @@ cut-whole p (r ∷ rs) = go (p r) (sections p rs) (cut-whole p rs)
     go true c e = rw e
     go false c e = rw e
 
-record-parts : (k : ℕ) (r : Words) → goodRecord k r ≡ true → (words k (fieldsOf k r) ≡ r) × (goodFields k (fieldsOf k r) ≡ true)
+pub record-parts : (k : ℕ) (r : Words) → goodRecord k r ≡ true → (words k (fieldsOf k r) ≡ r) × (goodFields k (fieldsOf k r) ≡ true)
 unfolding goodRecord
 record-parts k r g =
     let b = and-both (same r (words k (fieldsOf k r))) (goodFields k (fieldsOf k r)) g in
