@@ -12,7 +12,7 @@ use borrow.Author.Tests.{ne-eqb}
 use Rattle.machine.specs.Lists.{all, sum, concatMap}
 use Rattle.machine.specs.Record.{Chain, Residue, Conformer, Atom, Words, words, kind, fieldsOf}
 use Rattle.machine.specs.Store.{Branch, Machine, flat, records, atomCount, stored}
-use Rattle.machine.specs.Lines.{Column, columnText, fitting, lineOf, AtomLine, atomColumns, modelColumns, endColumns, Entry, entryLines, entryOf, linesOf, writable, machineText}
+use Rattle.machine.specs.Lines.{Column, columnText, fitting, lineOf, AtomLine, nameColumns, placeColumns, valueColumns, elementColumns, atomColumns, modelColumns, endColumns, Entry, entryLines, entryOf, linesOf, writable, machineText}
 use Rattle.laws.specs.Lists.{and-both, All, All-append, sum-append, sum-concatMap}
 use Rattle.laws.specs.Grouped.{words-kind}
 use Rattle.laws.specs.Columns.{width, columns-length}
@@ -138,7 +138,7 @@ lines-length (cs ∷ ls) e h =
     omega (arith, length-append (lineOf cs) (concatMap lineOf ls), line-length cs (e .0) (b .0), lines-length ls (e .1) (b .1))
 
 atoms-eighty : (ls : List AtomLine) → All Eighty (map atomColumns ls)
-unfolding atomColumns
+unfolding atomColumns nameColumns placeColumns valueColumns elementColumns
 atoms-eighty [] = tt
 atoms-eighty (l ∷ ls) = (refl, atoms-eighty ls)
 

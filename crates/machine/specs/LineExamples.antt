@@ -13,7 +13,7 @@ use Rattle.machine.specs.Store.{Machine}
 use Rattle.machine.specs.Query.{packedName}
 use Rattle.machine.specs.Program.{digits, newline}
 use Rattle.machine.specs.Rounding.{nearestWhole, inUnits}
-use Rattle.machine.specs.Lines.{Column, columnText, fitting, lineOf, lastDigits, pointed, fixed, chargeText, AtomLine, atomColumns, modelColumns, entryLines, entryOf, machineText}
+use Rattle.machine.specs.Lines.{Column, columnText, fitting, lineOf, lastDigits, pointed, fixed, chargeText, AtomLine, nameColumns, placeColumns, valueColumns, elementColumns, atomColumns, modelColumns, entryLines, entryOf, machineText}
 
 pub record LineExample : Type 0 where
   pub given : List ℕ
@@ -112,10 +112,10 @@ lineExamples =
     ∷ example (tooWide (atomColumns (ids "AB" 10000 "ALAN" 100000 "CAAAA"))) (bytes "100000CAAAAALANAB10000")
     ∷ example (tooWide (atomColumns (ids "A" (minus 999) "ALA" 0 ""))) []
     ∷ example (tooWide (atomColumns (ids "A" (minus 1000) "ALA" 0 ""))) (bytes "-1000")
-    ∷ example (tooWide (atomColumns (under "A" 1 "CD" "ALA" "EF" ((5 ∷ []))))) (bytes "EFCD")
+    ∷ example (tooWide (atomColumns (under "A" 1 "CD" "ALA" "EF" (5 ∷ [])))) (bytes "EFCD")
     ∷ example (tooWide (modelColumns (record { serial = 10000 }))) (bytes "10000")
     ∷ []
 
 pub lines-shown : map (λ (e : LineExample). e .given) lineExamples ≡ map (λ (e : LineExample). e .stated) lineExamples
-unfolding lineExamples packed unpacked withoutZeros textOf fieldsOf digits nearestWhole inUnits lastDigits pointed fixed chargeText atomColumns modelColumns entryLines entryOf ofBits ofFields odd trailingZeros
+unfolding lineExamples packed unpacked withoutZeros textOf fieldsOf digits nearestWhole inUnits lastDigits pointed fixed chargeText nameColumns placeColumns valueColumns elementColumns atomColumns modelColumns entryLines entryOf ofBits ofFields odd trailingZeros
 lines-shown = refl

@@ -104,39 +104,47 @@ pub record AtomLine : Type 0 where
   pub conformer : Conformer
   pub atom : Atom
 
--- wwPDB's ATOM and HETATM records. "Coordinates go out to three decimals, occupancy and B-factor to two"; "Residue names, numbers and
--- element symbols stand at the right of their columns; what is absent is blank."
-unfoldable pub atomColumns : AtomLine → List Column
-atomColumns l =
-    let a = l .atom in
-    -- 1 to 6
+-- columns 1 to 16: the record's name, and the atom's serial number and name
+unfoldable pub nameColumns : Atom → List Column
+nameColumns a =
     atLeft 6 (cond (eqb (a .hetero) 1) (bytes "HETATM") (bytes "ATOM"))
-    -- 7 to 11, 12
     ∷ atRight 5 (decimal (a .serial))
     ∷ atLeft 1 []
-    -- 13 to 16
     ∷ atLeft 4 (blanks (indent (a .name) (a .element)) ++ textOf (a .name))
-    -- 17, 18 to 20, 21
-    ∷ atLeft 1 (textOf (l .conformer .location))
-    ∷ atRight 3 (textOf (l .conformer .name))
+    ∷ []
+
+-- columns 17 to 30: location, residue name, chain id, residue number and insertion code. "Residue names, numbers and element symbols,
+-- these in capitals, stand at the right of their columns; what is absent is blank."
+unfoldable pub placeColumns : Chain → Residue → Conformer → List Column
+placeColumns c r f =
+    atLeft 1 (textOf (f .location))
+    ∷ atRight 3 (textOf (f .name))
     ∷ atLeft 1 []
-    -- 22, 23 to 26, 27, 28 to 30
-    ∷ atLeft 1 (textOf (l .chain .id))
-    ∷ atRight 4 (signed (toZ w64 (l .residue .serial)))
-    ∷ atLeft 1 (textOf (l .residue .code))
+    ∷ atLeft 1 (textOf (c .id))
+    ∷ atRight 4 (signed (toZ w64 (r .serial)))
+    ∷ atLeft 1 (textOf (r .code))
     ∷ atLeft 3 []
-    -- 31 to 38, 39 to 46, 47 to 54
-    ∷ atRight 8 (fixed 3 (a .x))
+    ∷ []
+
+-- columns 31 to 76: "Coordinates go out to three decimals, occupancy and B-factor to two"
+unfoldable pub valueColumns : Atom → List Column
+valueColumns a =
+    atRight 8 (fixed 3 (a .x))
     ∷ atRight 8 (fixed 3 (a .y))
     ∷ atRight 8 (fixed 3 (a .z))
-    -- 55 to 60, 61 to 66, 67 to 76
     ∷ atRight 6 (fixed 2 (a .occupancy))
     ∷ atRight 6 (fixed 2 (a .«b_factor»))
     ∷ atLeft 10 []
-    -- 77 to 78, 79 to 80
-    ∷ atRight 2 (symbol (a .element))
-    ∷ atLeft 2 (chargeText (toZ w64 (a .charge)))
     ∷ []
+
+-- columns 77 to 80
+unfoldable pub elementColumns : Atom → List Column
+elementColumns a = atRight 2 (symbol (a .element)) ∷ atLeft 2 (chargeText (toZ w64 (a .charge))) ∷ []
+
+-- "Columns follow the wwPDB format 3.3, ATOM and HETATM records"
+unfoldable pub atomColumns : AtomLine → List Column
+atomColumns l =
+    nameColumns (l .atom) ++ (placeColumns (l .chain) (l .residue) (l .conformer) ++ (valueColumns (l .atom) ++ elementColumns (l .atom)))
 
 -- wwPDB's MODEL record: the serial number in columns 11 to 14
 unfoldable pub modelColumns : Model → List Column
