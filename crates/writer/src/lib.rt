@@ -36,20 +36,20 @@ fn enter(above: Above, words: &[u64]) -> Above
     requires { ⌜ GoodWords (now words) ⌝ }
     ensures { λ r. ⌜ parents r ≡ entered (now (words .entry)) (parents above) ⌝ }
 {
-    let kind = words[0];
+    let kind = words[Record::KIND];
     let mut next = above;
     if kind == Record::CHAIN {
-        next.chain = words[1];
+        next.chain = words[Record::CHAIN_ID];
         return next;
     }
     if kind == Record::RESIDUE {
-        next.serial = words[1];
-        next.code = words[2];
+        next.serial = words[Record::SERIAL];
+        next.code = words[Record::CODE];
         return next;
     }
     if kind == Record::CONFORMER {
-        next.name = words[1];
-        next.location = words[2];
+        next.name = words[Record::CONFORMER_NAME];
+        next.location = words[Record::LOCATION];
         return next;
     }
     next
@@ -60,12 +60,12 @@ fn fits_record(above: Above, words: &[u64]) -> bool
     requires { ⌜ GoodWords (now words) ⌝ }
     ensures { λ r. ⌜ r ≡ all (all fitting) (recordLines true (parents above) (now (words .entry))) ⌝ }
 {
-    let kind = words[0];
+    let kind = words[Record::KIND];
     if kind == Record::ATOM {
         return columns::fits_atom(above, words);
     }
     if kind == Record::MODEL {
-        return columns::fits_model(words[1]);
+        return columns::fits_model(words[Record::SERIAL]);
     }
     true
 }
@@ -75,7 +75,7 @@ fn line_count(words: &[u64]) -> u64
     requires { ⌜ GoodWords (now words) ⌝ }
     ensures { λ r. ⌜ r ≡ lineCount (now (words .entry)) ⌝ }
 {
-    let kind = words[0];
+    let kind = words[Record::KIND];
     if kind == Record::ATOM {
         return 1;
     }
@@ -127,14 +127,14 @@ fn put_record(out: &mut [u8], at: usize, begun: bool, above: Above, words: &[u64
     requires { ⌜ at + length (concatMap lineOf (recordLines begun (parents above) (now words))) ≤ length (now out) ⌝ }
     ensures { λ r. ⌜ (r, now (out .exit)) ≡ putAt (concatMap lineOf (recordLines begun (parents above) (now (words .entry)))) at (now (out .entry)) ⌝ }
 {
-    let kind = words[0];
+    let kind = words[Record::KIND];
     if kind == Record::ATOM {
         let line = columns::atom_line(above, words);
         return decimals::put_bytes(out, at, &line);
     }
     if kind == Record::MODEL {
         let next = put_end(out, at, begun);
-        let line = columns::model_line(words[1]);
+        let line = columns::model_line(words[Record::SERIAL]);
         return decimals::put_bytes(out, next, &line);
     }
     at
