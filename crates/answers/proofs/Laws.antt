@@ -2,12 +2,13 @@
 use Prim.Native.Nat.{ℕ}
 use mathlib.Core.Path.{_≡_}
 use mathlib.Core.List.{[], _∷_}
-use Rattle.machine.specs.Answer.{refusalNumber, openedNumbers, editedNumbers, foundNumbers, lookedUpNumbers, editFields, findFields, lookupFields}
+use Rattle.machine.specs.Answer.{refusalNumber, openedNumbers, editedNumbers, foundNumbers, writtenNumbers, lookedUpNumbers, editFields, findFields, writeFields, lookupFields}
 use Rattle.machine.specs.declared.Refusal.{Refusal}
 use Rattle.machine.specs.declared.RecordNumbers.{RecordNumbers}
 use Rattle.machine.specs.declared.Opened as Opened
 use Rattle.machine.specs.declared.Edited as Edited
 use Rattle.machine.specs.declared.Found as Found
+use Rattle.machine.specs.declared.Written as Written
 use Rattle.machine.specs.declared.LookedUp as LookedUp
 use Rattle.machine.specs.declared.LookupAnswer.{LookupAnswer}
 
@@ -31,6 +32,13 @@ find-done f hits h = rw h
 pub find-refused : (f : Found.Found) (r : Refusal) (n : ℕ) → f ≡ Found.the-variants.Refused r → n ≡ refusalNumber r
     → findFields (record { result = n; hits = 0 }) ≡ foundNumbers f
 find-refused f r n h q = rw (h, q)
+
+pub write-done : (w : Written.Written) (length : ℕ) → w ≡ Written.the-variants.Bytes length → writeFields (record { result = 0; length = length }) ≡ writtenNumbers w
+write-done w length h = rw h
+
+pub write-refused : (w : Written.Written) (r : Refusal) (n : ℕ) → w ≡ Written.the-variants.Refused r → n ≡ refusalNumber r
+    → writeFields (record { result = n; length = 0 }) ≡ writtenNumbers w
+write-refused w r n h q = rw (h, q)
 
 pub lookup-at : (l : LookedUp.LookedUp) (at : RecordNumbers) → l ≡ LookedUp.the-variants.At at
     → lookupFields (record { result = 0; found = 1; model = at .model; chain = at .chain; residue = at .residue; conformer = at .conformer; atom = at .atom }) ≡ lookedUpNumbers l

@@ -1,7 +1,7 @@
 // Each answer as the numbers that document 01 gives it.
 ghost use mathlib.Core.Path.{_≡_};
 ghost use mathlib.Core.List.{[], _∷_};
-ghost use Rattle.machine.specs.Answer.{refusalNumber, openedNumbers, editedNumbers, foundNumbers, lookedUpNumbers, editFields, findFields, lookupFields};
+ghost use Rattle.machine.specs.Answer.{refusalNumber, openedNumbers, editedNumbers, foundNumbers, writtenNumbers, lookedUpNumbers, editFields, findFields, writeFields, lookupFields};
 use machine::EditAnswer;
 use machine::Edited;
 use machine::FindAnswer;
@@ -10,6 +10,8 @@ use machine::LookedUp;
 use machine::LookupAnswer;
 use machine::Opened;
 use machine::Refusal;
+use machine::WriteAnswer;
+use machine::Written;
 
 // "Refusal numbers by their cause"
 pub fn refusal_number(r: Refusal) -> u64
@@ -27,6 +29,8 @@ pub fn refusal_number(r: Refusal) -> u64
         Refusal::JoinWithItself => 9,
         Refusal::ShortOutput => 10,
         Refusal::BadFile => 11,
+        Refusal::TooWide => 12,
+        Refusal::ShortText => 13,
     }
 }
 
@@ -70,6 +74,24 @@ pub fn of_found(f: Found) -> FindAnswer
         Found::Refused(refusal) => {
             let n = refusal_number(refusal);
             FindAnswer { result: n, hits: 0 }
+        }
+    }
+}
+
+pub fn of_written(w: Written) -> WriteAnswer
+    ensures { λ r. ⌜ writeFields r ≡ writtenNumbers w ⌝ }
+{
+    match w {
+        Written::Bytes(length) => WriteAnswer {
+            result: 0,
+            length: length,
+        },
+        Written::Refused(refusal) => {
+            let n = refusal_number(refusal);
+            WriteAnswer {
+                result: n,
+                length: 0,
+            }
         }
     }
 }

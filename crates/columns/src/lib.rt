@@ -52,7 +52,8 @@ fn to_come(shown: bool, minus: bool, n: u64) -> bool
 
 // A number at the right of its columns, with a minus or without.
 fn put_number(line: &mut [u8; 81], at: usize, width: usize, minus: bool, n: u64)
-    requires { ⌜ (1 + length (dash minus) ≤ width) × (width ≤ 19) × (n < 10 ^ (width - length (dash minus))) × (at + width ≤ 81) × (length (now line) ≡ 81) ⌝ }
+    requires { ⌜ (1 + length (dash minus) ≤ width) × (width ≤ 19)
+        × (n < 10 ^ (width - length (dash minus))) × (at + width ≤ 81) × (length (now line) ≡ 81) ⌝ }
     ensures { λ _. ⌜ Put at (columnText (atRight width (dash minus ++ decimal n))) (now (line .entry)) (now (line .exit)) ⌝ }
 {
     let mut left = width;
@@ -92,7 +93,8 @@ fn put_decimal(
     minus: bool,
     n: u64,
 )
-    requires { ⌜ (unit ≡ 10 ^ d) × (1 ≤ unit) × (1 + length (dash minus) ≤ whole) × (whole ≤ 19) × (n / 10 ^ d < 10 ^ (whole - length (dash minus))) × (at + whole + 1 + d ≤ 81) × (length (now line) ≡ 81) ⌝ }
+    requires { ⌜ (unit ≡ 10 ^ d) × (1 ≤ unit) × (1 + length (dash minus) ≤ whole) × (whole ≤ 19)
+        × (n / 10 ^ d < 10 ^ (whole - length (dash minus))) × (at + whole + 1 + d ≤ 81) × (length (now line) ≡ 81) ⌝ }
     ensures { λ _. ⌜ Put at (columnText (atRight (whole + (1 + d)) (dash minus ++ pointed d n))) (now (line .entry)) (now (line .exit)) ⌝ }
 {
     put_number(line, at, whole, minus, n / unit);
@@ -109,7 +111,8 @@ fn negative(bits: u64, n: u64) -> bool
 
 // An f64 to d decimals at the right of its columns, `whole` of them before the point.
 fn put_fixed(line: &mut [u8; 81], at: usize, whole: usize, d: usize, unit: u64, bits: u64)
-    requires { ⌜ Places whole d unit × (finite bits ≡ true) × (leb (length (fixed d bits)) (whole + (1 + d)) ≡ true) × (at + whole + 1 + d ≤ 81) × (length (now line) ≡ 81) ⌝ }
+    requires { ⌜ Places whole d unit × (finite bits ≡ true) × (leb (length (fixed d bits)) (whole + (1 + d)) ≡ true)
+        × (at + whole + 1 + d ≤ 81) × (length (now line) ≡ 81) ⌝ }
     ensures { λ _. ⌜ Put at (columnText (atRight (whole + (1 + d)) (fixed d bits))) (now (line .entry)) (now (line .exit)) ⌝ }
 {
     let n = rounding::in_units(bits, unit);

@@ -2,13 +2,14 @@
 // are given by their bits.
 ghost use mathlib.Core.Path.{_≡_};
 ghost use mathlib.Core.List.{[], _∷_};
-ghost use Rattle.machine.specs.Answer.{resultNumber, editFields, findFields, lookupFields};
+ghost use Rattle.machine.specs.Answer.{resultNumber, editFields, findFields, writeFields, lookupFields};
 ghost use Rattle.machine.specs.Text.{optionalOf};
 ghost use Rattle.machine.specs.Store.{readStore, openRun};
 ghost use Rattle.machine.specs.Find.{findRun};
 ghost use Rattle.machine.specs.Edit as Calls;
 ghost use Rattle.machine.specs.Edit.{addition, storeStep};
 ghost use Rattle.machine.specs.Lookup.{lookupRun};
+ghost use Rattle.machine.specs.Write.{writeRun};
 ghost use Rattle.copies.specs.Copy.{copyRun};
 ghost use Rattle.edits.specs.Apply.{appliedNumbers, ran, applyRun};
 ghost use Rattle.exports.specs.Fields.{applyFields};
@@ -18,14 +19,15 @@ use machine::EditAnswer;
 use machine::FindAnswer;
 use machine::LookupAnswer;
 use machine::NewAtom;
+use machine::WriteAnswer;
 use store::Checked;
 
-// 0.2.0: the millions are the major number, the thousands the minor one.
+// 0.3.0: the millions are the major number, the thousands the minor one.
 #[no_mangle]
 pub extern "C" fn jubrelti_version() -> u64
     ensures { λ r. ⌜ r ≡ version ⌝ }
 {
-    2_000
+    3_000
 }
 
 // 0 for a good store, else the refusal's number.
@@ -75,6 +77,14 @@ pub extern "C" fn jubrelti_binary_find_atom(
 {
     let looked_up = structs::pdb::binary_find_atom(store, serial, flag, location);
     answers::of_looked_up(looked_up)
+}
+
+#[no_mangle]
+pub extern "C" fn jubrelti_write_pdb(store: &[u64], out: &mut [u8]) -> WriteAnswer
+    ensures { λ r. ⌜ (writeFields r, now (out .exit)) ≡ writeRun (now (store .entry)) (now (out .entry)) ⌝ }
+{
+    let written = structs::pdb::write_pdb(store, out);
+    answers::of_written(written)
 }
 
 // ---- the edits

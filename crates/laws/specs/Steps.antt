@@ -16,7 +16,7 @@ use Rattle.machine.specs.Store.{Branch, Machine, records, flat, stored, capacit
 use Rattle.machine.specs.Query.{readTree}
 use Rattle.machine.specs.Edit.{Addition, Call, AddModel, AddAtom, RemoveChain, RemoveResidue, RemoveConformer, RemoveAtom, RemoveChainById, RemoveResidueById, RemoveConformerById, RemoveAtomBySerialNumber, RemoveAtomsBy, RemoveEmpty, JoinModels, JoinChains, JoinResidues, JoinConformers, Change, up, branchAt, replaceAt, position, fits, addModel, accept, Prepare, prepare, newAtom, Which, first, last, pick, putIn, upsert, intoChains, addAtom, removeAt, root, withChildren, without, removeFirst, withFound, keepAtoms, removeAtomsBy, nonEmpty, removeEmpty, joinAt, withMachine, machineStep, answer, next}
 use Rattle.machine.specs.declared.Refusal.{Refusal}
-use Rattle.machine.specs.declared.Refusal.the-variants.{BadLength, BrokenLayout, TreeShape, TreeNode, NoPosition, BadIdentifier, BadValue, NoCapacity, JoinWithItself, ShortOutput, BadFile}
+use Rattle.machine.specs.declared.Refusal.the-variants.{BadLength, BrokenLayout, TreeShape, TreeNode, NoPosition, BadIdentifier, BadValue, NoCapacity, JoinWithItself, ShortOutput, BadFile, TooWide, ShortText}
 use Rattle.machine.specs.declared.Name.{Name}
 use Rattle.machine.specs.declared.Name.the-variants.{ChainId, InsertionCode, ConformerName, AlternativeLocation, AtomName}
 use Rattle.machine.specs.declared.Prepared.{Prepared}
@@ -410,6 +410,8 @@ refusal-number NoCapacity = refl
 refusal-number JoinWithItself = refl
 refusal-number ShortOutput = refl
 refusal-number BadFile = refl
+refusal-number TooWide = refl
+refusal-number ShortText = refl
 
 step : (n : ℕ) (m : Machine) (c : Call) → Step n m c (machineStep n m c)
 unfolding machineStep

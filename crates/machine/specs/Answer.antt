@@ -3,15 +3,17 @@ use Prim.Native.Nat.{ℕ}
 use mathlib.Core.Bool.{Bool, true, false}
 use mathlib.Core.List.{List, [], _∷_}
 use Rattle.machine.specs.declared.Refusal.{Refusal}
-use Rattle.machine.specs.declared.Refusal.the-variants.{BadLength, BrokenLayout, TreeShape, TreeNode, NoPosition, BadIdentifier, BadValue, NoCapacity, JoinWithItself, ShortOutput, BadFile}
+use Rattle.machine.specs.declared.Refusal.the-variants.{BadLength, BrokenLayout, TreeShape, TreeNode, NoPosition, BadIdentifier, BadValue, NoCapacity, JoinWithItself, ShortOutput, BadFile, TooWide, ShortText}
 use Rattle.machine.specs.declared.Name.{Name}
 use Rattle.machine.specs.declared.Name.the-variants.{ChainId, InsertionCode, ConformerName, AlternativeLocation, AtomName}
 use Rattle.machine.specs.declared.Opened as Opened
 use Rattle.machine.specs.declared.Edited as Edited
 use Rattle.machine.specs.declared.Found as Found
+use Rattle.machine.specs.declared.Written as Written
 use Rattle.machine.specs.declared.LookedUp as LookedUp
 use Rattle.machine.specs.declared.EditAnswer.{EditAnswer}
 use Rattle.machine.specs.declared.FindAnswer.{FindAnswer}
+use Rattle.machine.specs.declared.WriteAnswer.{WriteAnswer}
 use Rattle.machine.specs.declared.LookupAnswer.{LookupAnswer}
 
 -- "Refusal numbers by their cause"
@@ -27,6 +29,8 @@ refusalNumber NoCapacity = 8
 refusalNumber JoinWithItself = 9
 refusalNumber ShortOutput = 10
 refusalNumber BadFile = 11
+refusalNumber TooWide = 12
+refusalNumber ShortText = 13
 
 -- "6 bad identifier or flag", for each of the five names
 abbrev pub badName : Name → Refusal
@@ -49,6 +53,11 @@ abbrev pub foundNumbers : Found.Found → List ℕ
 foundNumbers (Found.the-variants.Hits n) = 0 ∷ n ∷ []
 foundNumbers (Found.the-variants.Refused r) = refusalNumber r ∷ 0 ∷ []
 
+-- change request §1: "The result holds the text's length in bytes"
+abbrev pub writtenNumbers : Written.Written → List ℕ
+writtenNumbers (Written.the-variants.Bytes n) = 0 ∷ n ∷ []
+writtenNumbers (Written.the-variants.Refused r) = refusalNumber r ∷ 0 ∷ []
+
 -- "found 1 and five record numbers, or found 0 and zeros"
 abbrev pub lookedUpNumbers : LookedUp.LookedUp → List ℕ
 lookedUpNumbers (LookedUp.the-variants.At h) = 0 ∷ 1 ∷ h .model ∷ h .chain ∷ h .residue ∷ h .conformer ∷ h .atom ∷ []
@@ -61,6 +70,9 @@ editFields e = e .result ∷ e .found ∷ e .removed ∷ []
 
 abbrev pub findFields : FindAnswer → List ℕ
 findFields f = f .result ∷ f .hits ∷ []
+
+abbrev pub writeFields : WriteAnswer → List ℕ
+writeFields w = w .result ∷ w .length ∷ []
 
 abbrev pub lookupFields : LookupAnswer → List ℕ
 lookupFields l = l .result ∷ l .found ∷ l .model ∷ l .chain ∷ l .residue ∷ l .conformer ∷ l .atom ∷ []

@@ -11,6 +11,7 @@ pub mod Lookup
 pub mod Program
 pub mod Rounding
 pub mod Lines
+pub mod Write
 pub mod Demand
 pub mod Cases
 pub mod Examples

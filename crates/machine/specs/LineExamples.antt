@@ -4,15 +4,17 @@ use Prim.Native.String.{String}
 use mathlib.Core.Path.{_≡_, refl}
 use mathlib.Core.Bool.{not}
 use mathlib.Core.List.{List, [], _∷_, _++_, map}
+use lib.ListN.{replicate}
 use lib.Ieee.{ofBits, ofFields, odd}
 use lib.Count.{trailingZeros}
 use Rattle.machine.specs.Lists.{concatMap, filter, bytes}
 use Rattle.machine.specs.Text.{packed, unpacked, withoutZeros, textOf}
-use Rattle.machine.specs.Record.{Words, fieldsOf}
-use Rattle.machine.specs.Store.{Machine}
+use Rattle.machine.specs.Record.{Words, words, fieldsOf, goodFields, goodRecord}
+use Rattle.machine.specs.Store.{Machine, inOrder, goodLayout, sections, group, readStore}
 use Rattle.machine.specs.Query.{packedName}
 use Rattle.machine.specs.Program.{digits, newline}
 use Rattle.machine.specs.Rounding.{nearestWhole, inUnits}
+use Rattle.machine.specs.Write.{storeText, writeRun}
 use Rattle.machine.specs.Lines.{Column, columnText, fitting, lineOf, lastDigits, pointed, fixed, chargeText, AtomLine, nameColumns, placeColumns, valueColumns, elementColumns, atomColumns, modelColumns, entryLines, entryOf, machineText}
 
 pub record LineExample : Type 0 where
@@ -83,6 +85,22 @@ twoModels =
     let residue = (named "N" 7) .residue in
     (record { serial = 1 }, (chain, (residue, []) ∷ (residue, (conformer, atom ∷ []) ∷ []) ∷ []) ∷ (chain, []) ∷ []) ∷ (record { serial = 9999 }, []) ∷ []
 
+-- ---- the writer
+
+-- a store with a model and no more
+abbrev oneModel : ℕ → List ℕ
+oneModel serial = 1 ∷ serial ∷ replicate 10 0 ++ (12 ∷ [])
+
+-- the answer's numbers, then the output
+abbrev wrote : List ℕ → List ℕ → List ℕ
+wrote w out = writeRun w out .0 ++ writeRun w out .1
+
+-- its text
+abbrev modelSeven : List ℕ
+modelSeven =
+    line "MODEL        7                                                                  "
+    ++ line "ENDMDL                                                                          "
+
 -- ---- the table
 
 unfoldable pub lineExamples : List LineExample
@@ -114,8 +132,15 @@ lineExamples =
     ∷ example (tooWide (atomColumns (ids "A" (minus 1000) "ALA" 0 ""))) (bytes "-1000")
     ∷ example (tooWide (atomColumns (under "A" 1 "CD" "ALA" "EF" (5 ∷ [])))) (bytes "EFCD")
     ∷ example (tooWide (modelColumns (record { serial = 10000 }))) (bytes "10000")
+    -- the length of the text, and the bytes past it; 13 where one byte is missing, 12 before it, and the store's 1 and 2 before that
+    ∷ example (wrote (oneModel 7) (replicate 164 9)) (0 ∷ 162 ∷ modelSeven ++ (9 ∷ 9 ∷ []))
+    ∷ example (wrote (oneModel 7) (replicate 161 9)) (13 ∷ 0 ∷ replicate 161 9)
+    ∷ example (wrote (oneModel 10000) (9 ∷ [])) (12 ∷ 0 ∷ 9 ∷ [])
+    ∷ example (wrote (5 ∷ oneModel 10000) (9 ∷ [])) (2 ∷ 0 ∷ 9 ∷ [])
+    ∷ example (wrote [] (9 ∷ [])) (1 ∷ 0 ∷ 9 ∷ [])
+    ∷ example (wrote (0 ∷ []) (9 ∷ [])) (0 ∷ 0 ∷ 9 ∷ [])
     ∷ []
 
 pub lines-shown : map (λ (e : LineExample). e .given) lineExamples ≡ map (λ (e : LineExample). e .stated) lineExamples
-unfolding lineExamples packed unpacked withoutZeros textOf fieldsOf digits nearestWhole inUnits lastDigits pointed fixed chargeText nameColumns placeColumns valueColumns elementColumns atomColumns modelColumns entryLines entryOf ofBits ofFields odd trailingZeros
+unfolding lineExamples inOrder goodLayout sections group readStore words goodFields goodRecord storeText writeRun packed unpacked withoutZeros textOf fieldsOf digits nearestWhole inUnits lastDigits pointed fixed chargeText nameColumns placeColumns valueColumns elementColumns atomColumns modelColumns entryLines entryOf ofBits ofFields odd trailingZeros
 lines-shown = refl

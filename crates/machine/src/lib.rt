@@ -157,6 +157,8 @@ pub enum Refusal {
     JoinWithItself,
     ShortOutput,
     BadFile,
+    TooWide,
+    ShortText,
 }
 
 pub enum Opened {
@@ -173,6 +175,12 @@ pub enum Edited {
 // The number of hits.
 pub enum Found {
     Hits(u64),
+    Refused(Refusal),
+}
+
+// The length of a text in bytes.
+pub enum Written {
+    Bytes(u64),
     Refused(Refusal),
 }
 
@@ -204,6 +212,12 @@ pub struct EditAnswer {
 pub struct FindAnswer {
     pub result: u64,
     pub hits: u64,
+}
+
+#[repr(C)]
+pub struct WriteAnswer {
+    pub result: u64,
+    pub length: u64,
 }
 
 #[repr(C)]

@@ -18,7 +18,7 @@ use Rattle.machine.specs.Program.{Input, wordsIn, split, readInput, digit, digi
 use Rattle.machine.specs.Demand.{atomNumber}
 use Rattle.machine.specs.declared.Node.{Node}
 use Rattle.machine.specs.declared.Refusal.{Refusal}
-use Rattle.machine.specs.declared.Refusal.the-variants.{BadLength, BrokenLayout, TreeShape, TreeNode, NoPosition, BadIdentifier, BadValue, NoCapacity, JoinWithItself, ShortOutput, BadFile}
+use Rattle.machine.specs.declared.Refusal.the-variants.{BadLength, BrokenLayout, TreeShape, TreeNode, NoPosition, BadIdentifier, BadValue, NoCapacity, JoinWithItself, ShortOutput, BadFile, TooWide, ShortText}
 use Rattle.machine.specs.declared.Found.the-variants.{Refused}
 use Rattle.laws.specs.Lists.{All}
 use Rattle.laws.specs.Counting.{Rises, keyed-filter}
@@ -242,6 +242,8 @@ ten NoCapacity e = absurd (omega (arith, ap number e))
 ten JoinWithItself e = absurd (omega (arith, ap number e))
 ten ShortOutput e = refl
 ten BadFile e = absurd (omega (arith, ap number e))
+ten TooWide e = absurd (omega (arith, ap number e))
+ten ShortText e = absurd (omega (arith, ap number e))
 
 -- whatever the input, the program doesn't print the refusal 10
 pub never-ten : (bs : List ℕ) → programRun bs ≡ bytes "refused 10\n" → ⊥

@@ -1,15 +1,17 @@
 // After pdb.rs.
 ghost use mathlib.Core.Path.{_≡_};
-ghost use Rattle.machine.specs.Answer.{openedNumbers, editedNumbers, foundNumbers, lookedUpNumbers};
+ghost use Rattle.machine.specs.Answer.{openedNumbers, editedNumbers, foundNumbers, writtenNumbers, lookedUpNumbers};
 ghost use Rattle.machine.specs.Text.{optionalOf};
 ghost use Rattle.machine.specs.Store.{openRun};
 ghost use Rattle.machine.specs.Edit.{storeStep, AddModel};
 ghost use Rattle.machine.specs.Find.{findRun};
 ghost use Rattle.machine.specs.Lookup.{lookupRun};
+ghost use Rattle.machine.specs.Write.{writeRun};
 use machine::Edited;
 use machine::Found;
 use machine::LookedUp;
 use machine::Opened;
+use machine::Written;
 use store::Checked;
 
 // "Opening sets every word to 0" and "refuses only with 1".
@@ -46,4 +48,11 @@ pub fn binary_find_atom(store: &[u64], serial: u64, flag: u64, location: &[u8]) 
         Checked::Refused(refusal) => LookedUp::Refused(refusal),
         Checked::Good(_atoms) => lookup::binary_find_atom(store, serial, flag, location),
     }
+}
+
+// The structure as PDB lines, change request §1.
+pub fn write_pdb(store: &[u64], out: &mut [u8]) -> Written
+    ensures { λ r. ⌜ (writtenNumbers r, now (out .exit)) ≡ writeRun (now (store .entry)) (now (out .entry)) ⌝ }
+{
+    writer::write(store, out)
 }

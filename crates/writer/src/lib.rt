@@ -1,18 +1,22 @@
-// PDB lines out (change request §1): two passes over a store known to be good. The first decides whether every field fits and how long the
-// text is, the second writes it.
+// PDB lines out (change request §1). One pass over the store decides whether every field fits and how long the text is, a second one writes it.
 ghost use mathlib.Core.Path.{_≡_};
 ghost use mathlib.Core.Bool.{true};
 ghost use mathlib.Core.List.{map};
 ghost use Prim.Native.Nat.{_+_, _≤_};
 ghost use lib.ListN.{length};
+ghost use Rattle.machine.specs.Answer.{writtenNumbers};
 ghost use Rattle.machine.specs.Lists.{all, concatMap};
 ghost use Rattle.machine.specs.Lines.{fitting, lineOf, entryOf, writable, machineText};
+ghost use Rattle.machine.specs.Write.{writeRun};
 ghost use Rattle.laws.specs.Flat.{entered, ended, recordLines, lineCount};
 ghost use Rattle.decimals.specs.Put.{putAt};
 ghost use Rattle.seek.specs.Seek.{held, Good};
 ghost use Rattle.writer.specs.Writer.{parents, GoodWords, measured};
 use columns::Above;
 use machine::Record;
+use machine::Refusal;
+use machine::Written;
+use store::Checked;
 
 // How many bytes the text has, where every field fits into its columns.
 pub enum Measured {
@@ -159,4 +163,34 @@ pub fn write_all(store: &[u64], out: &mut [u8]) -> usize
         n += 1;
     }
     put_end(out, at, 0 < n)
+}
+
+// A good store. Both refusals are decided before a byte is written.
+fn write_good(store: &[u64], out: &mut [u8]) -> Written
+    requires { ⌜ Good (now store) ⌝ }
+    ensures { λ r. ⌜ (writtenNumbers r, now (out .exit)) ≡ writeRun (now (store .entry)) (now (out .entry)) ⌝ }
+{
+    let measured = measure(store);
+    match measured {
+        Measured::TooWide => Written::Refused(Refusal::TooWide),
+        Measured::Bytes(length) => {
+            if length <= out.len() as u64 {
+                let end = write_all(store, out);
+                Written::Bytes(end as u64)
+            } else {
+                Written::Refused(Refusal::ShortText)
+            }
+        }
+    }
+}
+
+// Refused in order: 1 and 2 by the store, 12 by its fields, 13 by the output.
+pub fn write(store: &[u64], out: &mut [u8]) -> Written
+    ensures { λ r. ⌜ (writtenNumbers r, now (out .exit)) ≡ writeRun (now (store .entry)) (now (out .entry)) ⌝ }
+{
+    let checked = store::check(store);
+    match checked {
+        Checked::Refused(refusal) => Written::Refused(refusal),
+        Checked::Good(_atoms) => write_good(store, out),
+    }
 }
