@@ -1,5 +1,8 @@
-// gemmi's structure and selections, for bench/others.rs.
+// gemmi's structure, selections and PDB writer, for bench/others.rs.
+#define GEMMI_WRITE_IMPLEMENTATION
 #include <gemmi/select.hpp>
+#include <gemmi/to_pdb.hpp>
+#include <streambuf>
 
 static gemmi::Structure structure;
 
@@ -35,4 +38,29 @@ extern "C" size_t gemmi_select(const char *cid) {
                     hits++;
                 }
     return hits;
+}
+
+extern "C" void gemmi_clear() {
+    structure.models.clear();
+}
+
+// The atom that was added last.
+extern "C" void gemmi_place(double x, double y, double z, bool hetero) {
+    auto &residue = structure.models[0].chains.back().residues.back();
+    residue.het_flag = hetero ? 'H' : 'A';
+    residue.atoms.back().pos = gemmi::Position(x, y, z);
+}
+
+// A stream into bytes that are lent, so that no text grows while it is timed.
+struct Lent : std::streambuf {
+    Lent(char *out, size_t length) { setp(out, out + length); }
+    size_t written() const { return pptr() - pbase(); }
+};
+
+// The atoms' PDB lines, with no header but what gemmi always writes; the number of bytes.
+extern "C" size_t gemmi_write(char *out, size_t length) {
+    Lent lent(out, length);
+    std::ostream stream(&lent);
+    gemmi::write_minimal_pdb(structure, stream);
+    return lent.written();
 }

@@ -15,15 +15,17 @@ mod plot;
 mod port;
 mod store;
 mod structure;
+mod writing;
 
 fn main() {
     let name = std::env::args().nth(1).expect("a name");
-    let parts: [(&str, fn()); 6] = [
+    let parts: [(&str, fn()); 7] = [
         ("check", check::table),
         ("find", find::table),
         ("edits", edits::table),
         ("additions", additions::table),
         ("building", building::table),
+        ("writing", writing::table),
         ("plot", plot::draw),
     ];
     for (part, run) in parts.iter().filter(|(part, _)| name == "all" || name == *part) {

@@ -30,7 +30,7 @@
 
 /* The version of this header, as one number too: major * 1,000,000 + minor * 1,000 + patch. */
 #define JUBRELTI_VERSION_MAJOR 0
-#define JUBRELTI_VERSION_MINOR 2
+#define JUBRELTI_VERSION_MINOR 3
 #define JUBRELTI_VERSION_PATCH 0
 #define JUBRELTI_VERSION (JUBRELTI_VERSION_MAJOR * 1000000 + JUBRELTI_VERSION_MINOR * 1000 + JUBRELTI_VERSION_PATCH)
 
@@ -45,8 +45,8 @@
 extern "C" {
 #endif
 
-/* Results. They are checked in the order 1, 2, 5, 9, then 3 (length), 4, 3 (shape), 6, 7, 8, 10. The program `find` alone gives 11,
-   and jubrelti_apply alone 22 and 23, after 1 and 2. */
+/* Results. They are checked in the order 1, 2, 5, 9, then 3 (length), 4, 3 (shape), 6, 7, 8, 12, 13, 10. The program `find` alone gives
+   11, and jubrelti_apply alone 22 and 23, after 1 and 2. */
 enum {
     /* bindings/tables: results */
     JUBRELTI_DONE = 0,
@@ -63,6 +63,8 @@ enum {
     JUBRELTI_SHORT_OUTPUT = 10,    /* the output is shorter than five words for each hit */
     JUBRELTI_BAD_FILE = 11,        /* the input isn't a whole number of words, is empty or over 65,536 bytes, or the tree's start
                                       lies past its last word */
+    JUBRELTI_TOO_WIDE = 12,        /* a field of a line that is written is too wide for its columns */
+    JUBRELTI_SHORT_TEXT = 13,      /* the output is shorter than the text */
     JUBRELTI_BAD_LIST = 22,        /* the words are not a well-formed list of edits */
     JUBRELTI_SHORT_ANSWERS = 23    /* the output is shorter than three words for each edit */
     /* bindings/tables: end of results */
@@ -125,6 +127,12 @@ typedef struct {
     uint64_t atom;
 } JubreltiLookup;
 
+/* length: the text's, in bytes. */
+typedef struct {
+    uint64_t result;
+    uint64_t length;
+} JubreltiWrite;
+
 /* element: 1 to 118, or 0 for missing. hetero: 0 or 1. */
 typedef struct {
     uint64_t serial;
@@ -164,6 +172,13 @@ JubreltiFind jubrelti_find(const uint64_t *JUBRELTI_RESTRICT store, size_t lengt
 /* The atom of a serial number and alternative location in the first model. */
 JubreltiLookup jubrelti_binary_find_atom(const uint64_t *store, size_t length, uint64_t serial, uint64_t location_flag,
                                          const uint8_t *location, size_t location_length);
+
+/* ---- PDB lines */
+
+/* Writes the structure as PDB lines (docs/FORMATS.md, "PDB lines"): MODEL and ENDMDL around the atoms of each model, 80 columns and a
+   newline each. Bytes of the output past the text stay. */
+JubreltiWrite jubrelti_write_pdb(const uint64_t *JUBRELTI_RESTRICT store, size_t length, uint8_t *JUBRELTI_RESTRICT out,
+                                 size_t out_length);
 
 /* ---- edits */
 
@@ -357,6 +372,10 @@ static const struct {
     {JUBRELTI_JOIN_WITH_ITSELF, "both positions of the join are the same; give two different ones"},
     {JUBRELTI_SHORT_OUTPUT, "the output has no room for all hits; lend five words for each"},
     {JUBRELTI_BAD_FILE, "the file isn't a store, a tree and the tree's start, or is over 65,536 bytes; write it so"},
+    {JUBRELTI_TOO_WIDE,
+     "a field is too wide for its columns of a PDB line; give a chain id, code and location 1 byte, a conformer name 3, an atom "
+     "name 4, and numbers within the limits of docs/FORMATS.md"},
+    {JUBRELTI_SHORT_TEXT, "the output has no room for the text; lend 81 bytes for each atom and twice 81 for each model"},
     {JUBRELTI_BAD_LIST,
      "the list isn't well-formed, or an edit in it has over 1,024 words; give each edit the words of its code, and shorten its "
      "texts or its search"},

@@ -1,5 +1,7 @@
-// compare [SEED] [LISTS]: the port beside pdbtbx's own files and a plain reading of document 01: small texts, trees and floats in full, then
-// random lists of calls, each also as one call.
+// compare [SEED] [LISTS] [READER]: the port beside pdbtbx's own files and a plain reading of document 01: small texts, trees and floats in
+// full, then random lists of calls, each also as one call; and its PDB lines beside a plain reading of change request §1 and, where the
+// program READER is given, read back by gemmi.
+mod fitting;
 mod floats;
 mod identifiers;
 mod judges;
@@ -10,9 +12,12 @@ mod original;
 mod plain;
 mod port;
 mod random;
+mod read_back;
 mod reading;
 mod sides;
+mod text;
 mod trees;
+mod writing;
 use port::Call;
 use random::Random;
 use sides::{Counts, Sides};
@@ -41,7 +46,7 @@ fn as_one(r: &mut Random, length: usize, calls: &[Call], answers: &[u64], after:
 }
 
 // One random list; the number of spoilt ones made from it. The package reads at its end and at every eighth call.
-fn list(r: &mut Random, counts: &mut Counts, reads: &mut reading::Counts) -> u64 {
+fn list(r: &mut Random, counts: &mut Counts, reads: &mut reading::Counts, writes: &mut writing::Counts) -> u64 {
     let length = 1 + r.below(30 * 12) as usize;
     let mut sides = Sides::open((0..length).map(|_| r.word()).collect());
     let (mut calls, mut answers) = (Vec::new(), Vec::new());
@@ -64,28 +69,39 @@ fn list(r: &mut Random, counts: &mut Counts, reads: &mut reading::Counts) -> u64
         }
     }
     reading::compare(&sides, reads);
+    writing::compare(&sides.store, &sides.judges.machine, writes);
     let other = r.below(30 * 12);
     sides.copy((0..other).map(|_| r.word()).collect());
     as_one(r, length, &calls, &answers, &sides.store)
 }
 
 fn main() {
-    let mut args = std::env::args().skip(1).map(|a| a.parse::<u64>().expect("a number"));
-    let seed = args.next().unwrap_or(1);
-    let lists = args.next().unwrap_or(100_000);
+    let args: Vec<String> = std::env::args().skip(1).collect();
+    let number = |i: usize, default| args.get(i).map_or(default, |a| a.parse::<u64>().expect("a number"));
+    let (seed, lists) = (number(0, 1), number(1, 100_000));
     println!("{} lists with a number in a header's place, or cut short: no disagreement", junk::headers());
     identifiers::compare().print("small texts in full");
     identifiers::compare_beyond_ascii();
     println!("characters above 127: the listed blanks differ, and no other");
     trees::compare().print("small trees in full");
     floats::compare().print("floats, each against each");
-    let (mut counts, mut reads) = (Counts::default(), reading::Counts::default());
+    writing::compare_limits();
+    let (decimals, halfway) = writing::compare_formatting(&mut Random::new(seed));
+    println!("{decimals} decimals, in the plain reading as in Rust's own formatting, but for {halfway} that lie halfway");
+    let (mut counts, mut reads, mut writes) = (Counts::default(), reading::Counts::default(), writing::Counts::default());
     let random = |i: u64| Random::new(seed.wrapping_mul(1_000_003).wrapping_add(i));
-    let spoilt: u64 = (0..lists).map(|i| list(&mut random(i), &mut counts, &mut reads)).sum();
+    let spoilt: u64 = (0..lists).map(|i| list(&mut random(i), &mut counts, &mut reads, &mut writes)).sum();
     counts.print(&format!("seed {seed}, {lists} random lists and {spoilt} spoilt ones"));
     let mut places = Counts::default();
     (0..lists / 10).for_each(|i| reading::compare_places(&mut random(i), &mut places, &mut reads));
     places.print(&format!("seed {seed}, {} structures of atoms in random places", lists / 10));
     println!("{} names of conformers and atoms, in the package's tables as in the crate's", reading::compare_tables());
     reads.print();
+    writes.print("after each random list");
+    let mut writes = writing::Counts::default();
+    (0..lists).for_each(|i| writing::compare_random(&mut random(i), &mut writes));
+    writes.print(&format!("seed {seed}, {lists} random structures, each also with a word spoilt"));
+    if let Some(reader) = args.get(2) {
+        read_back::compare(reader, lists / 20, random);
+    }
 }

@@ -61,7 +61,7 @@ fn packed(text: &[u8], raised: bool) -> Option<u64> {
 }
 
 // The bytes that a packed word stands for.
-fn text_of(word: u64) -> Vec<u8> {
+pub fn text_of(word: u64) -> Vec<u8> {
     let bytes = word.to_be_bytes();
     let end = bytes.iter().rposition(|b| *b != 0).map_or(0, |i| i + 1);
     bytes[..end].to_vec()

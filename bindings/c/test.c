@@ -102,6 +102,23 @@ static void search(void) {
     expect("serial 9 isn't there", jubrelti_binary_find_atom(store, LENGTH, 9, 0, bytes(""), 0).found, 0);
 }
 
+/* The store of build as lines, in a block of exactly their length. */
+static void lines(void) {
+    enum { TEXT = 4 * 81 };
+    uint8_t *text = (uint8_t *)junk(TEXT / 8 + 1);
+    const char *n = "ATOM      1  N   ALA A   7       1.500   0.000   0.000  1.00  0.00           N  \n";
+    const char *end = "ENDMDL                                                                          \n";
+    expect("no room for the last byte", jubrelti_write_pdb(store, LENGTH, text, TEXT - 1).result, JUBRELTI_SHORT_TEXT);
+    expect("the output is as it was", text[0], 0xff);
+    JubreltiWrite written = jubrelti_write_pdb(store, LENGTH, text, TEXT);
+    expect("write lines", written.result, JUBRELTI_DONE);
+    expect("their bytes", written.length, TEXT);
+    expect("the line of N", memcmp(text + 81, n, 81) == 0, 1);
+    expect("the last line", memcmp(text + 3 * 81, end, 81) == 0, 1);
+    expect("the byte behind it stays", text[TEXT], 0xff);
+    free(text);
+}
+
 static void edit(void) {
     const uint64_t not_nitrogen[] = {JUBRELTI_NODE_ELEMENT(7), JUBRELTI_NODE_NOT};
     expect("what was never opened can't be copied", jubrelti_copy(longer, LONGER, store, LENGTH), JUBRELTI_BROKEN_LAYOUT);
@@ -142,6 +159,7 @@ static void no_store(void) {
     expect("copy into no words", jubrelti_copy(store, LENGTH, NULL, 0), JUBRELTI_BAD_LENGTH);
     expect("find in no words", jubrelti_find(NULL, 0, all, 3, out, OUT).result, JUBRELTI_BAD_LENGTH);
     expect("look up in no words", jubrelti_binary_find_atom(NULL, 0, 1, 0, NULL, 0).result, JUBRELTI_BAD_LENGTH);
+    expect("write no words", jubrelti_write_pdb(NULL, 0, NULL, 0).result, JUBRELTI_BAD_LENGTH);
     expect("edit no words", jubrelti_add_model(NULL, 0, 1).result, JUBRELTI_BAD_LENGTH);
     expect("apply a list to no words", jubrelti_apply(NULL, 0, NULL, 0, NULL, 0).result, JUBRELTI_BAD_LENGTH);
 }
@@ -293,6 +311,7 @@ static void records(void) {
     expect("element", jubrelti_atom_element(store, 4), 20);
     expect("charge", jubrelti_atom_charge(store, 4) == -2, 1);
     expect("hetero", jubrelti_atom_hetero(store, 4), 1);
+    expect("its line is too wide, which comes first", jubrelti_write_pdb(store, LENGTH, NULL, 0).result, JUBRELTI_TOO_WIDE);
 }
 
 /* A tree outside any function needs constants. */
@@ -349,6 +368,7 @@ int main(void) {
     out = junk(OUT);
     build();
     search();
+    lines();
     edit();
     no_store();
     no_texts();

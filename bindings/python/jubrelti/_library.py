@@ -37,6 +37,10 @@ class _Lookup(ctypes.Structure):
     _fields_ = [("result", _U64), ("found", _U64), ("records", _U64 * 5)]
 
 
+class _Written(ctypes.Structure):
+    _fields_ = [("result", _U64), ("length", _U64)]
+
+
 class _Applied(ctypes.Structure):
     _fields_ = [("result", _U64), ("calls", _U64)]
 
@@ -119,6 +123,7 @@ open_store = _declared(_LIBRARY, "jubrelti_open", _U64, *_SLICE)
 copy_store = _declared(_LIBRARY, "jubrelti_copy", _U64, *_SLICE, *_SLICE)
 find = _declared(_LIBRARY, "jubrelti_find", _Found, *_SLICE, *_SLICE, *_SLICE)
 binary_find_atom = _declared(_LIBRARY, "jubrelti_binary_find_atom", _Lookup, *_SLICE, _U64, _U64, *_TEXT)
+write_pdb = _declared(_LIBRARY, "jubrelti_write_pdb", _Written, *_SLICE, ctypes.POINTER(ctypes.c_uint8), ctypes.c_size_t)
 apply = _declared(_LIBRARY, "jubrelti_apply", _Applied, *_SLICE, *_SLICE, *_SLICE)
 
 # The texts and flags of an atom's place and name, as the header has them.

@@ -2,6 +2,7 @@
 
 from __future__ import annotations
 
+import ctypes
 import sys
 from array import array
 from collections.abc import Sequence as SequenceABC
@@ -239,6 +240,19 @@ class Store(Editing[Edited]):
         answer = library.binary_find_atom(*library.lend(self._words), serial, flag, location, len(location))
         check(answer.result)
         return Hit(self, self._edition, tuple(answer.records)) if answer.found else None
+
+    # ---- lines
+
+    def write_pdb(self) -> str:
+        """The structure as PDB lines: MODEL and ENDMDL around the atoms of each model, 80 columns and a newline each (docs/FORMATS.md,
+        "PDB lines").
+        """
+        counts = self.counts
+        # 81 bytes for each atom, and for each model twice.
+        out = (ctypes.c_uint8 * ((2 * counts.models + counts.atoms) * 81))()
+        written = library.write_pdb(*library.lend(self._words), out, len(out))
+        check(written.result)
+        return bytes(out[: written.length]).decode("ascii")
 
     # ---- edits
 

@@ -66,9 +66,9 @@ class Refusals(unittest.TestCase):
             self.assertEqual((error.number, error.name, str(error), repr(error)), (number, name, sentence, f"Error({number})"))
             self.assertIn("; ", sentence)
             self.assertTrue(cause)
-        self.assertEqual([row[0] for row in REFUSALS], [*range(1, 12), 22, 23])
-        with self.assertRaisesRegex(RuntimeError, "refusal 12 is unknown"):
-            check(12)
+        self.assertEqual([row[0] for row in REFUSALS], [*range(1, 14), 22, 23])
+        with self.assertRaisesRegex(RuntimeError, "refusal 99 is unknown"):
+            check(99)
 
     def test_errors_can_be_pickled(self):
         for error in (Error(5), EditError(3, Error(8)), QueryTextError("123456789"), StaleHitError()):

@@ -70,6 +70,7 @@ fn main() -> Result<(), Error> {
     let edited = store.apply_all(&edits)?;
     println!("removed {} atom above B 40", edited[0].removed);
     let left = store.find(Search::Known(true))?.len();
-    println!("{left} atoms left");
+    println!("{left} atoms left, as lines for a partner's program:");
+    print!("{}", store.write_pdb()?);
     Ok(())
 }

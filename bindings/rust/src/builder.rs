@@ -80,7 +80,7 @@ impl<W: Words> Store<W> {
         if edits.calls() == 1 {
             return self.edit(|store| ffi::add_model(store, serial_number as u64));
         }
-        let edited = self.apply_all(&edits.in_model(self.models_in_words())).map_err(of_atom)?;
+        let edited = self.apply_all(&edits.in_model(self.of_kind(1))).map_err(of_atom)?;
         Ok(edited[0])
     }
 }

@@ -31,6 +31,13 @@ pub struct Lookup {
 
 #[repr(C)]
 #[derive(Clone, Copy, Debug, PartialEq)]
+pub struct Write {
+    pub result: u64,
+    pub length: u64,
+}
+
+#[repr(C)]
+#[derive(Clone, Copy, Debug, PartialEq)]
 pub struct Apply {
     pub result: u64,
     pub calls: u64,
@@ -74,6 +81,7 @@ pub struct Addition<'a> {
 type Words = *mut u64;
 type Shared = *const u64;
 type Bytes = *const u8;
+type Text = *mut u8;
 
 extern "C" {
     fn jubrelti_version() -> u64;
@@ -83,6 +91,7 @@ extern "C" {
     fn jubrelti_find(store: Shared, n: usize, tree: Shared, t: usize, out: Words, o: usize) -> Find;
     fn jubrelti_binary_find_atom(store: Shared, n: usize, serial: u64, flag: u64, location: Bytes, l: usize) -> Lookup;
     fn jubrelti_apply(store: Words, n: usize, list: Shared, l: usize, out: Words, o: usize) -> Apply;
+    fn jubrelti_write_pdb(store: Shared, n: usize, out: Text, o: usize) -> Write;
     fn jubrelti_add_model(store: Words, n: usize, serial: u64) -> Edit;
     #[rustfmt::skip]
     fn jubrelti_add_atom(
@@ -179,6 +188,11 @@ pub fn binary_find_atom(store: &[u64], serial: u64, location: Optional) -> Looku
 pub fn apply(store: &mut [u64], list: &[u64], out: &mut [u64]) -> Apply {
     // SAFETY: `list` is read, and `store` and `out` are borrowed by `&mut` and written.
     unsafe { jubrelti_apply(store.as_mut_ptr(), store.len(), list.as_ptr(), list.len(), out.as_mut_ptr(), out.len()) }
+}
+
+pub fn write_pdb(store: &[u64], out: &mut [u8]) -> Write {
+    // SAFETY: `store` is read, and `out` is borrowed by `&mut` and written.
+    unsafe { jubrelti_write_pdb(store.as_ptr(), store.len(), out.as_mut_ptr(), out.len()) }
 }
 
 pub fn add_model(store: &mut [u64], serial: u64) -> Edit {

@@ -190,9 +190,35 @@ impl<W: AsRef<[u64]>> Store<W> {
         Ok((answer.found == 1).then(|| self.reading.hit(words, answer.at)))
     }
 
-    // How many models there are. To read the structure out would take longer.
-    pub(crate) fn models_in_words(&self) -> usize {
+    /// The structure as PDB lines: MODEL and ENDMDL around the atoms of each model, 80 columns and a newline each
+    /// (`docs/FORMATS.md`, "PDB lines").
+    ///
+    /// ```
+    /// use jubrelti::*;
+    ///
+    /// # fn main() -> Result<(), Error> {
+    /// let mut model = ModelBuilder::new(1);
+    /// model.add_atom(NewAtom::new(false, 1, "N", 1.5, 0.0, -0.25, 1.0, 12.0, "N", 0)?, "A", (7, None), ("ALA", None));
+    /// let mut store = Store::new();
+    /// store.add_model(model)?;
+    /// let text = store.write_pdb()?;
+    /// let atom = text.lines().nth(1);
+    /// assert_eq!(atom, Some("ATOM      1  N   ALA A   7       1.500   0.000  -0.250  1.00 12.00           N  "));
+    /// # Ok(())
+    /// # }
+    /// ```
+    pub fn write_pdb(&self) -> Result<String, Error> {
+        // 81 bytes for each atom, and for each model twice.
+        let mut text = vec![0; (self.of_kind(1) * 2 + self.of_kind(5)) * 81];
+        let written = ffi::write_pdb(self.words(), &mut text);
+        Error::check(written.result)?;
+        text.truncate(written.length as usize);
+        Ok(String::from_utf8(text).expect("the lines are ASCII"))
+    }
+
+    // How many records of a kind there are. To read the structure out would take longer.
+    pub(crate) fn of_kind(&self, kind: u64) -> usize {
         let words = self.words();
-        words.chunks_exact(RECORD).take(records(words)).filter(|record| record[0] == 1).count()
+        words.chunks_exact(RECORD).take(records(words)).filter(|record| record[0] == kind).count()
     }
 }

@@ -116,6 +116,8 @@ fn numbers_and_sentences() {
         (9, Error::JoinWithItself),
         (10, Error::ShortOutput),
         (11, Error::BadFile),
+        (12, Error::TooWide),
+        (13, Error::ShortText),
         (22, Error::BadList),
         (23, Error::ShortAnswers),
         (99, Error::Unknown(99)),
