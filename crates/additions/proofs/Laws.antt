@@ -10,7 +10,7 @@ use lib.Seq.{take-at, drop-at, length-take-le, take-all}
 use lib.Dec.{leb}
 use borrow.Author.Tests.{le-leb, lt-leb}
 use Rattle.machine.specs.Lists.{concatMap}
-use Rattle.machine.specs.Answer.{Result, ok, refused, editedNumbers}
+use Rattle.machine.specs.Answer.{Result, ok, refused, badName, editedNumbers}
 use Rattle.machine.specs.Text.{Optional, chainId, insertionCode, conformerName, alternativeLocation, atomName, optional}
 use Rattle.machine.specs.Record.{Words, words, finite, goodValues}
 use Rattle.machine.specs.Store.{Branch, Machine, flat, records, stored, capacity, laid, layOut, recordsOf}
@@ -20,7 +20,8 @@ use Rattle.machine.specs.declared.Prepared.{Prepared}
 use Rattle.machine.specs.declared.Prepared.the-variants.{Stored, Absent, Bad}
 use Rattle.machine.specs.declared.Name.{Name}
 use Rattle.machine.specs.declared.Name.the-variants.{ChainId, InsertionCode, ConformerName, AlternativeLocation, AtomName}
-use Rattle.machine.specs.declared.Refusal.the-variants.{NoPosition, BadIdentifier, BadValue, NoCapacity}
+use Rattle.machine.specs.declared.Refusal.{Refusal}
+use Rattle.machine.specs.declared.Refusal.the-variants.{NoPosition, BadValue, NoCapacity}
 use Rattle.machine.specs.declared.Edited as Edited
 use Rattle.laws.specs.Lists.{All-append, All-left, All-right, sum-append}
 use Rattle.laws.specs.Grouped.{concat, concat-length, twelve-words}
@@ -149,43 +150,39 @@ accepted n p q r w d e f = go q (ap wordOf (sym d) ∙ sym e ∙ f)
     go Absent h = let z : 0 ≡ w = cc in rw z
     go Bad h = let z : _≡_ {A = ℕ} 0 1 = cc in absurd (omega arith)
 
-pub declined : (n : Name) (p q : Prepared) (r : Word.Word) → p ≡ q → r ≡ wordOf p → r ≡ Word.the-variants.Bad → accept n q ≡ refused BadIdentifier
-declined n p q r d e f = go n q (ap wordOf (sym d) ∙ sym e ∙ f)
+pub declined : (n : Name) (p q : Prepared) (r : Word.Word) (x : Refusal) → p ≡ q → r ≡ wordOf p → r ≡ Word.the-variants.Bad → x ≡ badName n → accept n q ≡ refused x
+declined n p q r x d e f b = go q (ap wordOf (sym d) ∙ sym e ∙ f)
   where
-    go : (m : Name) (x : Prepared) → wordOf x ≡ Word.the-variants.Bad → accept m x ≡ refused BadIdentifier
-    go m (Stored v) h = let z : _≡_ {A = ℕ} 0 1 = cc in absurd (omega arith)
-    go m Absent h = let z : _≡_ {A = ℕ} 0 1 = cc in absurd (omega arith)
-    go ChainId Bad h = refl
-    go InsertionCode Bad h = refl
-    go ConformerName Bad h = refl
-    go AlternativeLocation Bad h = refl
-    go AtomName Bad h = refl
+    go : (t : Prepared) → wordOf t ≡ Word.the-variants.Bad → accept n t ≡ refused x
+    go (Stored v) h = let z : _≡_ {A = ℕ} 0 1 = cc in absurd (omega arith)
+    go Absent h = let z : _≡_ {A = ℕ} 0 1 = cc in absurd (omega arith)
+    go Bad h = rw b
 
 -- the first name that is bad, and all five
 module _ (a : Addition) where
-  pub bad-chain : accept ChainId (chainId (a .chain)) ≡ refused BadIdentifier → refused BadIdentifier ≡ prepare a
+  pub bad-chain : {r : Refusal} → accept ChainId (chainId (a .chain)) ≡ refused r → refused r ≡ prepare a
   unfolding prepare
   bad-chain e = rw e
 
   module _ (w₁ : ℕ) (e₁ : accept ChainId (chainId (a .chain)) ≡ ok w₁) where
-    pub bad-code : accept InsertionCode (optional insertionCode (a .code)) ≡ refused BadIdentifier → refused BadIdentifier ≡ prepare a
+    pub bad-code : {r : Refusal} → accept InsertionCode (optional insertionCode (a .code)) ≡ refused r → refused r ≡ prepare a
     unfolding prepare
     bad-code e = rw (e₁, e)
 
     module _ (w₂ : ℕ) (e₂ : accept InsertionCode (optional insertionCode (a .code)) ≡ ok w₂) where
-      pub bad-conformer : accept ConformerName (conformerName (a .conformer)) ≡ refused BadIdentifier → refused BadIdentifier ≡ prepare a
+      pub bad-conformer : {r : Refusal} → accept ConformerName (conformerName (a .conformer)) ≡ refused r → refused r ≡ prepare a
       unfolding prepare
       bad-conformer e = rw (e₁, e₂, e)
 
       module _ (w₃ : ℕ) (e₃ : accept ConformerName (conformerName (a .conformer)) ≡ ok w₃) where
-        pub bad-location : accept AlternativeLocation (optional alternativeLocation (a .location)) ≡ refused BadIdentifier → refused BadIdentifier ≡ prepare a
+        pub bad-location : {r : Refusal} → accept AlternativeLocation (optional alternativeLocation (a .location)) ≡ refused r → refused r ≡ prepare a
         unfolding prepare
         bad-location e = rw (e₁, e₂, e₃, e)
 
         module _ (w₄ : ℕ) (e₄ : accept AlternativeLocation (optional alternativeLocation (a .location)) ≡ ok w₄) where
-          pub bad-name : accept AtomName (atomName (a .name)) ≡ refused BadIdentifier → refused BadIdentifier ≡ prepare a
+          pub bad-atom-name : {r : Refusal} → accept AtomName (atomName (a .name)) ≡ refused r → refused r ≡ prepare a
           unfolding prepare
-          bad-name e = rw (e₁, e₂, e₃, e₄, e)
+          bad-atom-name e = rw (e₁, e₂, e₃, e₄, e)
 
           module _ (w₅ : ℕ) (e₅ : accept AtomName (atomName (a .name)) ≡ ok w₅) where
             pub all-ready : ok (record { chain = w₁; code = w₂; conformer = w₃; location = w₄; name = w₅ }) ≡ prepare a
@@ -363,9 +360,9 @@ module _ (w : List ℕ) (g : Good w) (i : ℕ) (chain : List ℕ) (residue : ℕ
       unfolding prepare
       prepared = q
 
-      pub atom-unnamed : o ≡ Readied.the-variants.Bad → (editedNumbers (Edited.the-variants.Refused BadIdentifier), w) ≡ answer
+      pub atom-unnamed : (x : Refusal) → o ≡ Readied.the-variants.Refused x → (editedNumbers (Edited.the-variants.Refused x), w) ≡ answer
       unfolding stepBy addAtom
-      atom-unnamed z = rw (g, stood w g i start stop model-spans .there, ← prepared, z)
+      atom-unnamed x z = rw (g, stood w g i start stop model-spans .there, ← prepared, z)
 
       module _ (n : StoredNames.StoredNames) (z : o ≡ Readied.the-variants.Ready n) (b : Bool) (f : b ≡ goodValues (namedAtom v 0)) where
         pub atom-bad : b ≡ false → (editedNumbers (Edited.the-variants.Refused BadValue), w) ≡ answer

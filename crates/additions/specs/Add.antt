@@ -9,7 +9,6 @@ use Rattle.machine.specs.Edit.{Addition, addition, Prepare, Change, position, b
 use Rattle.machine.specs.declared.NewAtom.{NewAtom}
 use Rattle.machine.specs.declared.Prepared.{Prepared}
 use Rattle.machine.specs.declared.Prepared.the-variants.{Stored, Absent, Bad}
-use Rattle.machine.specs.declared.Refusal.the-variants.{BadIdentifier}
 use Rattle.moves.specs.Over.{over, gapped}
 use Rattle.additions.specs.declared.StoredNames as StoredNames
 use Rattle.additions.specs.declared.Word as Word
@@ -34,7 +33,7 @@ preparedOf n = record { chain = n .chain; code = n .code; conformer = n .conform
 
 abbrev pub resultOf : Readied.Readied → Result Prepare
 resultOf (Readied.the-variants.Ready n) = ok (preparedOf n)
-resultOf Readied.the-variants.Bad = refused BadIdentifier
+resultOf (Readied.the-variants.Refused r) = refused r
 
 -- ---- the new records
 

@@ -16,6 +16,7 @@ ghost use Rattle.additions.specs.Add.{named, wordOf, preparedOf, resultO
 use elements::Element;
 use insertion::Cursor;
 use machine::Edited;
+use machine::Name;
 use machine::NewAtom;
 use machine::Prepared;
 use machine::Record;
@@ -51,7 +52,7 @@ struct StoredNames {
 
 enum Readied {
     Ready(StoredNames),
-    Bad,
+    Refused(Refusal),
 }
 
 // "6 (chain, code, conformer, location, atom name)"
@@ -68,22 +69,22 @@ fn ready(
         ≡ prepare (named (now (chain .entry)) (optionalOf «code_flag» (now (code .entry))) (now (conformer .entry)) (optionalOf «location_flag» (now (location .entry))) (now (name .entry))) ⌝ }
 {
     let Word::Is(chain_word) = word_of(helper::prepare_chain_id(chain)) else {
-        return Readied::Bad;
+        return Readied::Refused(answers::bad_name(Name::ChainId));
     };
     let Word::Is(code_word) = word_of(helper::prepare_optional_code(code_flag, code)) else {
-        return Readied::Bad;
+        return Readied::Refused(answers::bad_name(Name::InsertionCode));
     };
     let Word::Is(conformer_word) = word_of(helper::prepare_identifier_uppercase(conformer)) else {
-        return Readied::Bad;
+        return Readied::Refused(answers::bad_name(Name::ConformerName));
     };
     let Word::Is(location_word) = word_of(helper::prepare_optional_location(
         location_flag,
         location,
     )) else {
-        return Readied::Bad;
+        return Readied::Refused(answers::bad_name(Name::AlternativeLocation));
     };
     let Word::Is(name_word) = word_of(helper::prepare_atom_name(name)) else {
-        return Readied::Bad;
+        return Readied::Refused(answers::bad_name(Name::AtomName));
     };
     Readied::Ready(StoredNames {
         chain: chain_word,
@@ -267,7 +268,7 @@ pub fn add_atom_at(
             cursor: cursor,
         };
     };
-    let Readied::Ready(names) = ready(
+    match ready(
         chain,
         code_flag,
         code,
@@ -275,31 +276,33 @@ pub fn add_atom_at(
         location_flag,
         location,
         name,
-    ) else {
-        return Added {
-            edited: Edited::Refused(Refusal::BadIdentifier),
+    ) {
+        Readied::Ready(names) => {
+            if good_values(values) {
+                return put_atom(
+                    store,
+                    cursor,
+                    model,
+                    start,
+                    end,
+                    names,
+                    residue,
+                    code_flag,
+                    code,
+                    location_flag,
+                    location,
+                    values,
+                );
+            }
+            Added {
+                edited: Edited::Refused(Refusal::BadValue),
+                cursor: cursor,
+            }
+        }
+        Readied::Refused(refusal) => Added {
+            edited: Edited::Refused(refusal),
             cursor: cursor,
-        };
-    };
-    if good_values(values) {
-        return put_atom(
-            store,
-            cursor,
-            model,
-            start,
-            end,
-            names,
-            residue,
-            code_flag,
-            code,
-            location_flag,
-            location,
-            values,
-        );
-    }
-    Added {
-        edited: Edited::Refused(Refusal::BadValue),
-        cursor: cursor,
+        },
     }
 }
 

@@ -1,13 +1,14 @@
 // Each answer as the numbers that document 01 gives it.
 ghost use mathlib.Core.Path.{_≡_};
 ghost use mathlib.Core.List.{[], _∷_};
-ghost use Rattle.machine.specs.Answer.{refusalNumber, openedNumbers, editedNumbers, foundNumbers, writtenNumbers, lookedUpNumbers, editFields, findFields, writeFields, lookupFields};
+ghost use Rattle.machine.specs.Answer.{refusalNumber, badName, openedNumbers, editedNumbers, foundNumbers, writtenNumbers, lookedUpNumbers, editFields, findFields, writeFields, lookupFields};
 use machine::EditAnswer;
 use machine::Edited;
 use machine::FindAnswer;
 use machine::Found;
 use machine::LookedUp;
 use machine::LookupAnswer;
+use machine::Name;
 use machine::Opened;
 use machine::Refusal;
 use machine::WriteAnswer;
@@ -31,6 +32,19 @@ pub fn refusal_number(r: Refusal) -> u64
         Refusal::BadFile => 11,
         Refusal::TooWide => 12,
         Refusal::ShortText => 13,
+    }
+}
+
+// "6 bad identifier or flag", for each of the five names
+pub fn bad_name(name: Name) -> Refusal
+    ensures { λ r. ⌜ r ≡ badName name ⌝ }
+{
+    match name {
+        Name::ChainId => Refusal::BadIdentifier,
+        Name::InsertionCode => Refusal::BadIdentifier,
+        Name::ConformerName => Refusal::BadIdentifier,
+        Name::AlternativeLocation => Refusal::BadIdentifier,
+        Name::AtomName => Refusal::BadIdentifier,
     }
 }
 

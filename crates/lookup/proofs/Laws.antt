@@ -8,14 +8,15 @@ use native.Mathlib.Omega.{arith}
 use lib.ListN.{length, length-append}
 use borrow.Author.Tests.{le-leb, lt-leb}
 use Rattle.machine.specs.Lists.{concatMap, andThen}
-use Rattle.machine.specs.Answer.{ok, lookedUpNumbers}
+use Rattle.machine.specs.Answer.{ok, badName, lookedUpNumbers}
 use Rattle.machine.specs.Text.{Optional, optionalOf}
 use Rattle.machine.specs.Record.{Words, words}
 use Rattle.machine.specs.Store.{Branch, flat, records, group}
 use Rattle.machine.specs.Find.{size}
 use Rattle.machine.specs.Lookup.{numbered, firstChild, lookupIn, lookedUp}
 use Rattle.machine.specs.declared.LookedUp.the-variants.{At, NotFound, Refused}
-use Rattle.machine.specs.declared.Refusal.the-variants.{BadIdentifier}
+use Rattle.machine.specs.declared.Refusal.{Refusal}
+use Rattle.machine.specs.declared.Name.the-variants.{AlternativeLocation}
 use Rattle.machine.specs.declared.RecordNumbers.{RecordNumbers}
 use Rattle.laws.specs.Grouped.{group-flats}
 use Rattle.seek.specs.Seek.{Good, Within, held, recordsIn, descendants, spanOf}
@@ -138,8 +139,8 @@ module _ (w : List ℕ) (serial flag : ℕ) (text : List ℕ) where
   abbrev o : Optional
   o = optionalOf flag text
 
-  pub bad-flag : 1 < flag → lookedUpNumbers (Refused BadIdentifier) ≡ lookupNumbers serial o (held w)
-  bad-flag l = rw (lt-leb flag 1 l)
+  pub bad-flag : (r : Refusal) → 1 < flag → r ≡ badName AlternativeLocation → lookedUpNumbers (Refused r) ≡ lookupNumbers serial o (held w)
+  bad-flag r l e = rw (lt-leb flag 1 l, e)
 
   module _ (small : flag ≤ 1) (g : Good w) (count : ℕ) (c : count ≡ length (records (held w))) where
     pub no-model : count ≡ 0 → lookedUpNumbers NotFound ≡ lookupNumbers serial o (held w)

@@ -10,9 +10,9 @@ ghost use Rattle.machine.specs.Lookup.{spans};
 ghost use Rattle.seek.specs.Seek.{Good, Within, held, recordAt, recordsIn, spanOf};
 ghost use Rattle.lookup.specs.Level.{lookupNumbers, Level, spanWanted, atomSerials, wantedRecords};
 use machine::LookedUp;
+use machine::Name;
 use machine::Record;
 use machine::RecordNumbers;
-use machine::Refusal;
 use seek::Span;
 
 // The serial of the last atom among the records from `from` up to `end`; `first` where there is none.
@@ -132,7 +132,7 @@ pub fn binary_find_atom(store: &[u64], serial: u64, flag: u64, location: &[u8]) 
     ensures { λ r. ⌜ lookedUpNumbers r ≡ lookupNumbers serial (optionalOf flag (now (location .entry))) (held (now (store .entry))) ⌝ }
 {
     if 1 < flag {
-        return LookedUp::Refused(Refusal::BadIdentifier);
+        return LookedUp::Refused(answers::bad_name(Name::AlternativeLocation));
     }
     let count = seek::record_count(store);
     if count == 0 {

@@ -7,13 +7,15 @@ use mathlib.Core.Option.{Option, none, some}
 use native.Mathlib.Omega.{arith}
 use lib.ListN.{length, drop, set}
 use lib.Seq.{drop-drop}
-use borrow.Author.Tests.{le-leb, lt-leb, ne-eqb}
+use borrow.Author.Tests.{eq-eqb, le-leb, lt-leb, ne-eqb}
 use Rattle.machine.specs.Lists.{concatMap, firstWhere, splice}
-use Rattle.machine.specs.Answer.{Result, ok, refused, editedNumbers}
+use Rattle.machine.specs.Answer.{Result, ok, refused, badName, editedNumbers}
 use Rattle.machine.specs.Record.{Fields, words, kind}
 use Rattle.machine.specs.Store.{Branch, Machine, flat, records, stored, end, chunks}
 use Rattle.machine.specs.Edit.{up, branchAt, removeAt, replaceAt, root, withChildren, removeFirst, withMachine, withFound, stepBy}
-use Rattle.machine.specs.declared.Refusal.the-variants.{NoPosition, BadIdentifier}
+use Rattle.machine.specs.declared.Refusal.{Refusal}
+use Rattle.machine.specs.declared.Refusal.the-variants.{NoPosition}
+use Rattle.machine.specs.declared.Name.the-variants.{InsertionCode, AlternativeLocation}
 use Rattle.machine.specs.declared.Edited as Edited
 use Rattle.machine.specs.declared.Edited.the-variants.{Done, Refused}
 use Rattle.laws.specs.Layout.{layOut-read}
@@ -23,7 +25,7 @@ use Rattle.seek.proofs.Below.{recordsIn-cons}
 use Rattle.seek.proofs.Laws.{Stands, missing, found, stands-within, stands-records}
 use Rattle.seek.specs.declared.Span as Span
 use Rattle.removals.specs.Removal.{Removable, withoutRecords, removalOn, removal}
-use Rattle.removals.specs.Named.{Id, idOf, isNamed, sought, countBefore, names, flagOf, firstOn, firstRemoval}
+use Rattle.removals.specs.Named.{Id, idOf, isNamed, sought, countBefore, names, badFlag, flagOf, firstOn, firstRemoval}
 use Rattle.removals.proofs.Cut.{CutOut, cut-removable, cut-step, cut-branch}
 use Rattle.removals.proofs.First.{child-low, child-stop, cut-child, Picked, picked}
 
@@ -84,6 +86,12 @@ module _ (w pos : List ℕ) (g : Good w) (lo : 2 ≤ length pos) (hi : length po
 
 -- ---- remove_first
 
+pub code-flag : (h : ℕ) (r : Refusal) → h ≡ 3 → r ≡ badName InsertionCode → r ≡ badFlag h
+code-flag h r k e = rw (eq-eqb h 3 k) e
+
+pub location-flag : (h : ℕ) (r : Refusal) → (h ≡ 3 → ⊥) → r ≡ badName AlternativeLocation → r ≡ badFlag h
+location-flag h r k e = rw (ne-eqb h 3 k) e
+
 -- the child that goes, by the records from number at up to stop
 record Loses (k : ℕ) (ts : List (Branch k)) (r : Result (ℕ × List (Branch k))) (at stop : ℕ) : Type 0 where
   after : List (Branch k)
@@ -93,15 +101,15 @@ record Loses (k : ℕ) (ts : List (Branch k)) (r : Result (ℕ × List (Branch k
 -- below the parent's record p and up to q
 record BelowParent (w : List ℕ) (h : ℕ) (id : Id) (k : ℕ) (ts : List (Branch k)) (r : Result (ℕ × List (Branch k))) (p q : ℕ) : Type 0 where
   within : Within (p + 1) q w
-  flagged : flagOf id ≡ refused BadIdentifier → r ≡ refused BadIdentifier
-  unfound : (at : ℕ) → flagOf id ≡ ok tt → at ≡ p + 1 + countBefore (sought h id) (recordsIn (p + 1) q w) → q ≤ at → r ≡ ok (0, ts)
-  lost : (at stop : ℕ) → flagOf id ≡ ok tt → at ≡ p + 1 + countBefore (sought h id) (recordsIn (p + 1) q w) → at < q → stop ≡ at + 1 + descendants h (recordsIn (at + 1) q w)
+  flagged : (x : Refusal) → flagOf h id ≡ refused x → r ≡ refused x
+  unfound : (at : ℕ) → flagOf h id ≡ ok tt → at ≡ p + 1 + countBefore (sought h id) (recordsIn (p + 1) q w) → q ≤ at → r ≡ ok (0, ts)
+  lost : (at stop : ℕ) → flagOf h id ≡ ok tt → at ≡ p + 1 + countBefore (sought h id) (recordsIn (p + 1) q w) → at < q → stop ≡ at + 1 + descendants h (recordsIn (at + 1) q w)
       → Loses k ts r at stop
 
 module _ (d j : ℕ) (pos : List ℕ) (flag : Result (Unit {0})) (f : Fields j → Bool) (ts : List (Branch (up d (suc j)))) (t : Branch (suc j)) (there : branchAt d (suc j) pos ts ≡ some t) where
-  first-refused : flag ≡ refused BadIdentifier → removeFirst d j pos flag f ts ≡ refused BadIdentifier
+  first-refused : (x : Refusal) → flag ≡ refused x → removeFirst d j pos flag f ts ≡ refused x
   unfolding removeFirst
-  first-refused e = rw (there, e)
+  first-refused x e = rw (there, e)
 
   first-none : flag ≡ ok tt → firstWhere (λ u. f (root j u)) (t .1) ≡ none → removeFirst d j pos flag f ts ≡ ok (0, ts)
   unfolding removeFirst
@@ -114,7 +122,7 @@ module _ (d j : ℕ) (pos : List ℕ) (flag : Result (Unit {0})) (f : Fields j �
 module _ (w : List ℕ) (g : Good w) (d j : ℕ) (pos : List ℕ) (ts : List (Branch (up d (suc j)))) (whole : records (held w) ≡ concatMap (flat (up d (suc j))) ts)
     (h : ℕ) (level : h + j ≡ 5) (one : 1 ≤ h) (id : Id) (f : Fields j → Bool) (agree : (x : Fields j) → sought h id (words j x) ≡ f x) where
   abbrev result : Result (ℕ × List (Branch (up d (suc j))))
-  result = removeFirst d j pos (flagOf id) f ts
+  result = removeFirst d j pos (flagOf h id) f ts
 
   module _ (p q : ℕ) (s : Stands d (suc j) pos 0 ts p q) where
     abbrev kids : List (Branch j)
@@ -133,12 +141,12 @@ module _ (w : List ℕ) (g : Good w) (d j : ℕ) (pos : List ℕ) (ts : List (Br
     pick : Picked j (firstWhere (λ u. f (root j u)) kids) kids (countBefore (sought h id) (recordsIn (p + 1) q w))
     pick = rw kids-records (picked h j level f (sought h id) agree (λ r l. rw (ne-eqb (kind r) h (λ e. omega arith))) kids)
 
-    not-found : (o : Option ℕ) (at : ℕ) → firstWhere (λ u. f (root j u)) kids ≡ o → Picked j o kids (countBefore (sought h id) (recordsIn (p + 1) q w)) → flagOf id ≡ ok tt
+    not-found : (o : Option ℕ) (at : ℕ) → firstWhere (λ u. f (root j u)) kids ≡ o → Picked j o kids (countBefore (sought h id) (recordsIn (p + 1) q w)) → flagOf h id ≡ ok tt
         → at ≡ p + 1 + countBefore (sought h id) (recordsIn (p + 1) q w) → q ≤ at → result ≡ ok (0, ts)
-    not-found none at e x fl a l = first-none d j pos (flagOf id) f ts (s .branch) (s .there) fl e
+    not-found none at e x fl a l = first-none d j pos (flagOf h id) f ts (s .branch) (s .there) fl e
     not-found (some i) at e x fl a l = absurd (omega (arith, ends, child-low j kids i _ x))
 
-    loses : (o : Option ℕ) (at stop : ℕ) → firstWhere (λ u. f (root j u)) kids ≡ o → Picked j o kids (countBefore (sought h id) (recordsIn (p + 1) q w)) → flagOf id ≡ ok tt
+    loses : (o : Option ℕ) (at stop : ℕ) → firstWhere (λ u. f (root j u)) kids ≡ o → Picked j o kids (countBefore (sought h id) (recordsIn (p + 1) q w)) → flagOf h id ≡ ok tt
         → at ≡ p + 1 + countBefore (sought h id) (recordsIn (p + 1) q w) → at < q → stop ≡ at + 1 + descendants h (recordsIn (at + 1) q w) → Loses (up d (suc j)) ts result at stop
     loses none at stop e x fl a l b = absurd (omega (arith, ends, x))
     loses (some i) at stop e x fl a l b =
@@ -148,7 +156,7 @@ module _ (w : List ℕ) (g : Good w) (d j : ℕ) (pos : List ℕ) (ts : List (Br
         let z : descendants h (recordsIn (at + 1) q w) ≡ descendants h (drop (suc o) (concatMap (flat j) kids)) = ap (descendants h) c in
         record {
           after = _;
-          accepted = first-some d j pos (flagOf id) f ts (s .branch) (s .there) i fl e;
+          accepted = first-some d j pos (flagOf h id) f ts (s .branch) (s .there) i fl e;
           cut = cut-child d j pos ts p q s i o x at stop a (omega (arith, child-stop j kids i o x h level one));
         }
 
@@ -156,7 +164,7 @@ module _ (w : List ℕ) (g : Good w) (d j : ℕ) (pos : List ℕ) (ts : List (Br
     below-parent =
         record {
           within = record { order = omega (arith, ends); room = stands-within w g d (suc j) pos ts p q whole s .room };
-          flagged = first-refused d j pos (flagOf id) f ts (s .branch) (s .there);
+          flagged = first-refused d j pos (flagOf h id) f ts (s .branch) (s .there);
           unfound = λ at. not-found _ at refl pick;
           lost = λ at stop. loses _ at stop refl pick;
         }
@@ -208,12 +216,12 @@ module _ {w pos : List ℕ} {p q : ℕ} (s : Parent w pos p q) (serial : ℕ) (n
   pub first-within : Within (p + 1) q w
   first-within = below .within
 
-  pub first-flag : 1 < flag → Outcome w pos given (Refused BadIdentifier) w
+  pub first-flag : (x : Refusal) → 1 < flag → x ≡ badFlag (length pos + 1) → Outcome w pos given (Refused x) w
   unfolding stepBy
-  first-flag l = rw (s .good, below .flagged (rw (lt-leb flag 1 l)))
+  first-flag x l e = rw (s .good, below .flagged x (rw (lt-leb flag 1 l, e)))
 
   module _ (l : flag ≤ 1) (at : ℕ) (a : at ≡ p + 1 + countBefore (sought (length pos + 1) given) (recordsIn (p + 1) q w)) where
-    good-flag : flagOf given ≡ ok tt
+    good-flag : flagOf (length pos + 1) given ≡ ok tt
     good-flag = rw (le-leb flag 1 l)
 
     -- "None found: found 0"

@@ -10,7 +10,8 @@ use Rattle.machine.specs.Text.{Optional, goodFlag, matches, matchesOptional}
 use Rattle.machine.specs.Record.{Words, Fields, kind}
 use Rattle.machine.specs.Store.{Machine}
 use Rattle.machine.specs.Edit.{Change, removeFirst, withFound}
-use Rattle.machine.specs.declared.Refusal.the-variants.{NoPosition, BadIdentifier}
+use Rattle.machine.specs.declared.Refusal.{Refusal}
+use Rattle.machine.specs.declared.Refusal.the-variants.{NoPosition}
 use Rattle.machine.specs.declared.Name.the-variants.{InsertionCode, AlternativeLocation}
 
 -- an id as given: a residue's or an atom's serial number; a chain's or a conformer's name; a residue's code or a conformer's location
@@ -50,17 +51,20 @@ names (suc (suc zero)) id r = eqb (r .serial) (id .serial) && matchesOptional (i
 names (suc (suc (suc zero))) id c = matches (id .name) (c .id)
 names (suc (suc (suc (suc j)))) id f = false
 
--- "6 bad identifier or flag"; a call that takes no flag has 0
-abbrev pub flagOf : Id → Result (Unit {0})
-flagOf id = need (goodFlag (id .other)) BadIdentifier
+-- a residue's id has a flag for its code, a conformer's one for its location; a call that takes no flag has 0
+abbrev pub badFlag : ℕ → Refusal
+badFlag kind = cond (eqb kind 3) (badName InsertionCode) (badName AlternativeLocation)
+
+abbrev pub flagOf : ℕ → Id → Result (Unit {0})
+flagOf kind id = need (goodFlag (id .other)) (badFlag kind)
 
 -- the parent's position has one index for a model, four for a conformer
 abbrev pub firstOn : ℕ → List ℕ → Id → Machine → Result (ℕ × Machine)
 firstOn zero pos id m = refused NoPosition
-firstOn (suc zero) pos id m = removeFirst 0 3 pos (flagOf id) (names 3 id) m
-firstOn (suc (suc zero)) pos id m = removeFirst 1 2 pos (flagOf id) (names 2 id) m
-firstOn (suc (suc (suc zero))) pos id m = removeFirst 2 1 pos (flagOf id) (names 1 id) m
-firstOn (suc (suc (suc (suc zero)))) pos id m = removeFirst 3 0 pos (flagOf id) (names 0 id) m
+firstOn (suc zero) pos id m = removeFirst 0 3 pos (flagOf 2 id) (names 3 id) m
+firstOn (suc (suc zero)) pos id m = removeFirst 1 2 pos (flagOf 3 id) (names 2 id) m
+firstOn (suc (suc (suc zero))) pos id m = removeFirst 2 1 pos (flagOf 4 id) (names 1 id) m
+firstOn (suc (suc (suc (suc zero)))) pos id m = removeFirst 3 0 pos (flagOf 5 id) (names 0 id) m
 firstOn (suc (suc (suc (suc (suc n))))) pos id m = refused NoPosition
 
 abbrev pub firstRemoval : List ℕ → Id → Machine → Result Change

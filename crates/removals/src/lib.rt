@@ -6,8 +6,9 @@ ghost use Rattle.machine.specs.Answer.{editedNumbers};
 ghost use Rattle.machine.specs.Edit.{stepBy};
 ghost use Rattle.seek.specs.Seek.{Good, Within, recordsIn, atomRecords};
 ghost use Rattle.removals.specs.Removal.{Removable, withoutRecords, removal};
-ghost use Rattle.removals.specs.Named.{idOf, isNamed, sought, countBefore, firstRemoval, chainById, residueById, conformerById, atomBySerialNumber};
+ghost use Rattle.removals.specs.Named.{idOf, isNamed, sought, countBefore, badFlag, firstRemoval, chainById, residueById, conformerById, atomBySerialNumber};
 use machine::Edited;
+use machine::Name;
 use machine::Record;
 use machine::Refusal;
 use seek::Span;
@@ -110,6 +111,16 @@ fn first_named(
     at
 }
 
+// A residue's id has a flag for its code, a conformer's one for its location.
+fn bad_flag(kind: u64) -> Refusal
+    ensures { λ r. ⌜ r ≡ badFlag kind ⌝ }
+{
+    if kind == Record::RESIDUE {
+        return answers::bad_name(Name::InsertionCode);
+    }
+    answers::bad_name(Name::AlternativeLocation)
+}
+
 // "Remove the first by id within its parent": the parent's position has one index for a model, four for a conformer.
 fn remove_first(
     store: &mut [u64],
@@ -127,10 +138,10 @@ fn remove_first(
     let Span::At(p, q) = seek::locate(store, position) else {
         return Edited::Refused(Refusal::NoPosition);
     };
-    if 1 < flag {
-        return Edited::Refused(Refusal::BadIdentifier);
-    }
     let kind = position.len() as u64 + 1;
+    if 1 < flag {
+        return Edited::Refused(bad_flag(kind));
+    }
     let at = first_named(store, p + 1, q, kind, serial, name, flag, other);
     if q <= at {
         return Edited::Done(0, 0);

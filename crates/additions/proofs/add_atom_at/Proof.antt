@@ -28,15 +28,6 @@ ready-requires c κs = search needs
 enum-known-names : tie.Need-enum-known-names
 enum-known-names c = search needs
 
-enum-told-2 : tie.Need-enum-told-2
-enum-told-2 c = search needs
-
-same-length-2 : tie.Need-same-length-2
-same-length-2 c = search needs
-
-returns-2 : tie.Need-returns-2
-returns-2 c = search (needs, atom-unnamed)
-
 good-values-requires : tie.Need-good-values-requires
 good-values-requires c κs = search needs
 
@@ -46,11 +37,11 @@ put-atom-requires c κs =
     let pre = l .before .before .before .before .before .before .before .before .pre in
     (pre .0, (pre .1, at-span _ _ _ (sym (l .model-span .ensures) ∙ c .before .before .before .before .before .before .before .before .start .given .1)))
 
-same-length-3 : tie.Need-same-length-3
-same-length-3 c = search needs
+same-length-2 : tie.Need-same-length-2
+same-length-2 c = search needs
 
-returns-3 : tie.Need-returns-3
-returns-3 c =
+returns-2 : tie.Need-returns-2
+returns-2 c =
     let p = c .before .before in
     let b = p .before .before .before in
     let d = b .before .before .before .before in
@@ -61,11 +52,20 @@ returns-3 c =
       atom-ready _ (i .pre .0) (A .model) (A .chain .now) (A .residue) (optionalOf (A .code-flag) (A .code .now)) (A .conformer .now) (optionalOf (A .location-flag) (A .location .now)) (A .name .now) (A .values) _ (l .model-span .ensures) _ _ (d .before .before .start .given .1) _ (d .ready .ensures) _ (b .before .before .names .given .1) _ (b .good-values .ensures) (p .before .before .if1 .taken) (p .put-atom .ensures .1),
     )
 
+enum-known-refusal : tie.Need-enum-known-refusal
+enum-known-refusal c = search needs
+
+same-length-3 : tie.Need-same-length-3
+same-length-3 c = search needs
+
+returns-3 : tie.Need-returns-3
+returns-3 c = search (needs, atom-bad)
+
 same-length-4 : tie.Need-same-length-4
 same-length-4 c = search needs
 
 returns-4 : tie.Need-returns-4
-returns-4 c = search (needs, atom-bad)
+returns-4 c = search (needs, atom-unnamed)
 
 pub add-atom-at-spec : {M : Type 1} → statement M
 add-atom-at-spec =
@@ -78,11 +78,11 @@ add-atom-at-spec =
     returns
     ready-requires
     enum-known-names
-    enum-told-2
-    same-length-2
-    returns-2
     good-values-requires
     put-atom-requires
+    same-length-2
+    returns-2
+    enum-known-refusal
     same-length-3
     returns-3
     same-length-4

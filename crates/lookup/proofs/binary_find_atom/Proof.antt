@@ -4,6 +4,9 @@ use borrow.Author.Needs.{needs}
 use Rattle.lookup.proofs.binary_find_atom.Statement.{statement}
 use Rattle.lookup.proofs.binary_find_atom.Tie as tie
 
+bad-name-requires : tie.Need-bad-name-requires
+bad-name-requires c κs = search needs
+
 returns : tie.Need-returns
 returns c = search (needs, bad-flag)
 
@@ -107,6 +110,7 @@ pub binary-find-atom-spec : {M : Type 1} → statement M
 binary-find-atom-spec =
     tie.close
     (tie.spec
+    bad-name-requires
     returns
     record-count-requires
     returns-2

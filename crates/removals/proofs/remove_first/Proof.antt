@@ -20,18 +20,21 @@ same-length c = search needs
 returns : tie.Need-returns
 returns c = search (needs, first-missing)
 
+add-kind : tie.Need-add-kind
+add-kind c = search needs
+
+bad-flag-requires : tie.Need-bad-flag-requires
+bad-flag-requires c κs = search needs
+
 same-length-2 : tie.Need-same-length-2
 same-length-2 c = search needs
 
 returns-2 : tie.Need-returns-2
 returns-2 c =
-    let t = c .before .before .before .before .before .before .before .before .before .before in
+    let t = c .before .before .before .before .before .before .before .before .before .before .before in
     let a = t .args in
-    let s = parent (a .store .now) (a .position .now) (t .pre .0) (t .pre .1 .0) (t .pre .1 .1) _ (c .before .before .before .before .locate .ensures) _ _ (c .before .before .p .given .1) in
-    first-flag s (a .serial) (a .name .now) (a .flag) (a .other .now) (c .if1 .taken)
-
-add-kind : tie.Need-add-kind
-add-kind c = search needs
+    let s = parent (a .store .now) (a .position .now) (t .pre .0) (t .pre .1 .0) (t .pre .1 .1) _ (c .before .before .before .before .before .locate .ensures) _ _ (c .before .before .before .p .given .1) in
+    first-flag s (a .serial) (a .name .now) (a .flag) (a .other .now) _ (c .before .if1 .taken) (c .bad-flag .ensures)
 
 add-first-named : tie.Need-add-first-named
 add-first-named c =
@@ -94,9 +97,10 @@ remove-first-spec =
     enum-told
     same-length
     returns
+    add-kind
+    bad-flag-requires
     same-length-2
     returns-2
-    add-kind
     add-first-named
     first-named-requires
     same-length-3
