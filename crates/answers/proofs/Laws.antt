@@ -2,13 +2,14 @@
 use Prim.Native.Nat.{ℕ}
 use mathlib.Core.Path.{_≡_}
 use mathlib.Core.List.{[], _∷_}
-use Rattle.machine.specs.Answer.{refusalNumber, openedNumbers, editedNumbers, foundNumbers, writtenNumbers, lookedUpNumbers, editFields, findFields, writeFields, lookupFields}
+use Rattle.machine.specs.Answer.{refusalNumber, openedNumbers, editedNumbers, foundNumbers, writtenNumbers, appliedNumbers, lookedUpNumbers, editFields, findFields, writeFields, applyFields, lookupFields}
 use Rattle.machine.specs.declared.Refusal.{Refusal}
 use Rattle.machine.specs.declared.RecordNumbers.{RecordNumbers}
 use Rattle.machine.specs.declared.Opened as Opened
 use Rattle.machine.specs.declared.Edited as Edited
 use Rattle.machine.specs.declared.Found as Found
 use Rattle.machine.specs.declared.Written as Written
+use Rattle.machine.specs.declared.Applied as Applied
 use Rattle.machine.specs.declared.LookedUp as LookedUp
 use Rattle.machine.specs.declared.LookupAnswer.{LookupAnswer}
 
@@ -39,6 +40,13 @@ write-done w length h = rw h
 pub write-refused : (w : Written.Written) (r : Refusal) (n : ℕ) → w ≡ Written.the-variants.Refused r → n ≡ refusalNumber r
     → writeFields (record { result = n; length = 0 }) ≡ writtenNumbers w
 write-refused w r n h q = rw (h, q)
+
+pub apply-done : (a : Applied.Applied) (calls : ℕ) → a ≡ Applied.the-variants.Done calls → applyFields (record { result = 0; calls = calls }) ≡ appliedNumbers a
+apply-done a calls h = rw h
+
+pub apply-refused : (a : Applied.Applied) (r : Refusal) (n : ℕ) → a ≡ Applied.the-variants.Refused r → n ≡ refusalNumber r
+    → applyFields (record { result = n; calls = 0 }) ≡ appliedNumbers a
+apply-refused a r n h q = rw (h, q)
 
 pub lookup-at : (l : LookedUp.LookedUp) (at : RecordNumbers) → l ≡ LookedUp.the-variants.At at
     → lookupFields (record { result = 0; found = 1; model = at .model; chain = at .chain; residue = at .residue; conformer = at .conformer; atom = at .atom }) ≡ lookedUpNumbers l

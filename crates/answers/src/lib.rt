@@ -1,7 +1,9 @@
 // Each answer as the numbers that document 01 gives it.
 ghost use mathlib.Core.Path.{_≡_};
 ghost use mathlib.Core.List.{[], _∷_};
-ghost use Rattle.machine.specs.Answer.{refusalNumber, badName, openedNumbers, editedNumbers, foundNumbers, writtenNumbers, lookedUpNumbers, editFields, findFields, writeFields, lookupFields};
+ghost use Rattle.machine.specs.Answer.{refusalNumber, badName, openedNumbers, editedNumbers, foundNumbers, writtenNumbers, appliedNumbers, lookedUpNumbers, editFields, findFields, writeFields, applyFields, lookupFields};
+use machine::Applied;
+use machine::ApplyAnswer;
 use machine::EditAnswer;
 use machine::Edited;
 use machine::FindAnswer;
@@ -32,6 +34,8 @@ pub fn refusal_number(r: Refusal) -> u64
         Refusal::BadFile => 11,
         Refusal::TooWide => 12,
         Refusal::ShortText => 13,
+        Refusal::BadList => 22,
+        Refusal::ShortAnswers => 23,
     }
 }
 
@@ -105,6 +109,24 @@ pub fn of_written(w: Written) -> WriteAnswer
             WriteAnswer {
                 result: n,
                 length: 0,
+            }
+        }
+    }
+}
+
+pub fn of_applied(a: Applied) -> ApplyAnswer
+    ensures { λ r. ⌜ applyFields r ≡ appliedNumbers a ⌝ }
+{
+    match a {
+        Applied::Done(calls) => ApplyAnswer {
+            result: 0,
+            calls: calls,
+        },
+        Applied::Refused(refusal) => {
+            let n = refusal_number(refusal);
+            ApplyAnswer {
+                result: n,
+                calls: 0,
             }
         }
     }

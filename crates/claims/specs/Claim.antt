@@ -7,7 +7,7 @@ use mathlib.Core.List.{List, [], _∷_, map}
 use mathlib.Core.Option.{some}
 use lib.ListN.{length, take, drop}
 use Rattle.machine.specs.Lists.{filter}
-use Rattle.machine.specs.Answer.{openedNumbers, foundNumbers}
+use Rattle.machine.specs.Answer.{openedNumbers, foundNumbers, appliedNumbers}
 use Rattle.machine.specs.Store.{Machine, stored, layOut, openRun}
 use Rattle.machine.specs.Kleene.{isHit, isUndecided}
 use Rattle.machine.specs.Query.{tables, andTree, orTree, notTree}
@@ -15,7 +15,7 @@ use Rattle.machine.specs.Find.{atomsOf, valueAt, findRun}
 use Rattle.machine.specs.Edit.{Call, machineAfter, machineAnswers}
 use Rattle.machine.specs.Demand.{accepts, added, removed, Accepted, count, list, listed, shared, atomNumber, Rising, undecided}
 use Rattle.calls.specs.Format.{readCalls}
-use Rattle.edits.specs.Apply.{appliedNumbers, applyRun}
+use Rattle.edits.specs.Apply.{applyRun}
 use Rattle.claims.specs.declared.Finds.{Finds}
 use Rattle.claims.specs.declared.Answers.{Answers}
 

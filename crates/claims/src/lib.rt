@@ -6,7 +6,7 @@ ghost use lib.ListN.{length};
 ghost use Rattle.machine.specs.Answer.{foundNumbers};
 ghost use Rattle.machine.specs.Find.{findRun};
 ghost use Rattle.claims.specs.Claim.{runsSeen, findRuns, seen, wholeRun, Claims};
-use edits::Applied;
+use machine::Applied;
 use machine::Found;
 use machine::Opened;
 

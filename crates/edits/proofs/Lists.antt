@@ -10,11 +10,13 @@ use lib.ListN.{length, getD, take, drop, length-append, length-take, length-drop
 use lib.Seq.{drop-drop, drop-length, getD-drop}
 use borrow.Author.Tests.{le-leb, lt-leb}
 use Rattle.machine.specs.Lists.{concatMap}
-use Rattle.machine.specs.Answer.{Result, ok, refused, editedNumbers, editFields}
+use Rattle.machine.specs.Answer.{Result, ok, refused, editedNumbers, appliedNumbers, editFields}
 use Rattle.machine.specs.Store.{Machine, readStore}
 use Rattle.machine.specs.Edit.{Call, Change, stepBy, storeStep, storeAfter, storeAnswers}
 use Rattle.machine.specs.declared.Edited.{Edited}
 use Rattle.machine.specs.declared.Refusal.{Refusal}
+use Rattle.machine.specs.declared.Refusal.the-variants.{BadList, ShortAnswers}
+use Rattle.machine.specs.declared.Applied as Applied
 use Rattle.machine.specs.declared.EditAnswer.{EditAnswer}
 use Rattle.moves.specs.Over.{over}
 use Rattle.moves.proofs.Laws.{over-none, over-over, over-length}
@@ -28,8 +30,7 @@ use Rattle.calls.specs.declared.Counted as Counted
 use Rattle.calls.specs.Format.{readCall, readCalls}
 use Rattle.calls.proofs.Reading.{calls-none, calls-step}
 use Rattle.dispatch.proofs.Texts.{some-of}
-use Rattle.edits.specs.Apply.{appliedNumbers, Run, ran, answered, applied, runCalls, applyRun, callsOf}
-use Rattle.edits.specs.declared.Applied as Applied
+use Rattle.edits.specs.Apply.{Run, ran, answered, applied, runCalls, applyRun, callsOf}
 
 -- ---- the answers
 
@@ -183,7 +184,7 @@ module _ {w₀ out₀ list w out : List ℕ} {at done : ℕ} (g : Going w₀ out
 -- ---- the whole call
 
 module _ (w out : List ℕ) where
-  bad-run : (o : Option (List Call)) → Counted.the-variants.Bad ≡ countedOf o → ran (appliedNumbers Applied.the-variants.BadList) w out ≡ runCalls w out o
+  bad-run : (o : Option (List Call)) → Counted.the-variants.Bad ≡ countedOf o → ran (appliedNumbers (Applied.the-variants.Refused BadList)) w out ≡ runCalls w out o
   bad-run none q = refl
   bad-run (some cs) q = let z : _≡_ {A = ℕ} 0 1 = cc in absurd (omega arith)
 
@@ -192,7 +193,7 @@ module _ (w out : List ℕ) where
     counted none q = let z : _≡_ {A = ℕ} 0 1 = cc in absurd (omega arith)
     counted (some cs) q = (refl, cc)
 
-    short-run : (o : Option (List Call)) → Counted.the-variants.Calls n ≡ countedOf o → length out / 3 < n → ran (appliedNumbers Applied.the-variants.ShortAnswers) w out ≡ runCalls w out o
+    short-run : (o : Option (List Call)) → Counted.the-variants.Calls n ≡ countedOf o → length out / 3 < n → ran (appliedNumbers (Applied.the-variants.Refused ShortAnswers)) w out ≡ runCalls w out o
     short-run none q l = let z : _≡_ {A = ℕ} 0 1 = cc in absurd (omega arith)
     short-run (some cs) q l = let e : n ≡ length cs = cc in rw (lt-leb (3 * length cs) (length out) (omega arith))
 
@@ -206,14 +207,14 @@ module _ (w out : List ℕ) where
         rw (le-leb (3 * length cs) (length out) (omega arith), a, b, e)
 
 module _ {c : Counted.Counted} (list : List ℕ) (h : c ≡ countedOf (readCalls list)) where
-  pub bad-list : (w out : List ℕ) → c ≡ Counted.the-variants.Bad → ran (appliedNumbers Applied.the-variants.BadList) w out ≡ runCalls w out (readCalls list)
+  pub bad-list : (w out : List ℕ) → c ≡ Counted.the-variants.Bad → ran (appliedNumbers (Applied.the-variants.Refused BadList)) w out ≡ runCalls w out (readCalls list)
   bad-list w out e = bad-run w out (readCalls list) (sym e ∙ h)
 
   module _ {n : ℕ} (e : c ≡ Counted.the-variants.Calls n) where
     pub list-reads : isSome (readCalls list) ≡ true
     list-reads = counted [] [] (readCalls list) (sym e ∙ h) .0
 
-    pub short-answers : (w out : List ℕ) → length out / 3 < n → ran (appliedNumbers Applied.the-variants.ShortAnswers) w out ≡ runCalls w out (readCalls list)
+    pub short-answers : (w out : List ℕ) → length out / 3 < n → ran (appliedNumbers (Applied.the-variants.Refused ShortAnswers)) w out ≡ runCalls w out (readCalls list)
     short-answers w out l = short-run w out (readCalls list) (sym e ∙ h) l
 
     pub answers-room : (out : List ℕ) → n ≤ length out / 3 → 3 * length (callsOf (readCalls list)) ≤ length out

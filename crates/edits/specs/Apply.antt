@@ -6,19 +6,12 @@ use mathlib.Core.Option.{Option, none, some}
 use lib.ListN.{length, drop}
 use lib.Dec.{leb}
 use Rattle.machine.specs.Lists.{concatMap}
-use Rattle.machine.specs.Answer.{Result, ok, refused, refusalNumber}
+use Rattle.machine.specs.Answer.{Result, ok, refused, appliedNumbers}
 use Rattle.machine.specs.Store.{Machine, readStore}
 use Rattle.machine.specs.Edit.{Call, storeAfter, storeAnswers}
 use Rattle.calls.specs.Format.{readCalls}
-use Rattle.edits.specs.declared.Applied.{Applied}
-use Rattle.edits.specs.declared.Applied.the-variants.{Done, Refused, BadList, ShortAnswers}
-
--- 22 and 23 lie above the numbers of document 01; 12 to 21 are left free for later calls
-abbrev pub appliedNumbers : Applied → List ℕ
-appliedNumbers (Done calls) = 0 ∷ calls ∷ []
-appliedNumbers (Refused r) = refusalNumber r ∷ 0 ∷ []
-appliedNumbers BadList = 22 ∷ 0 ∷ []
-appliedNumbers ShortAnswers = 23 ∷ 0 ∷ []
+use Rattle.machine.specs.declared.Applied.the-variants.{Done, Refused}
+use Rattle.machine.specs.declared.Refusal.the-variants.{BadList, ShortAnswers}
 
 -- the answer's numbers, the store's words and the output's words afterwards
 pub record Run : Type 0 where
@@ -38,11 +31,11 @@ abbrev pub applied : List ℕ → List ℕ → List Call → List ℕ × List �
 applied w out cs = (storeAfter w cs, answered (storeAnswers w cs) out)
 
 abbrev pub runCalls : List ℕ → List ℕ → Option (List Call) → Run
-runCalls w out none = ran (appliedNumbers BadList) w out
+runCalls w out none = ran (appliedNumbers (Refused BadList)) w out
 runCalls w out (some cs) =
     cond (leb (3 * length cs) (length out))
     (ran (appliedNumbers (Done (length cs))) (applied w out cs .0) (applied w out cs .1))
-    (ran (appliedNumbers ShortAnswers) w out)
+    (ran (appliedNumbers (Refused ShortAnswers)) w out)
 
 abbrev pub runRead : List ℕ → List ℕ → List ℕ → Result Machine → Run
 runRead w list out (refused r) = ran (appliedNumbers (Refused r)) w out

@@ -5,27 +5,21 @@ ghost use mathlib.Core.Bool.{true};
 ghost use mathlib.Core.Option.{some, Option·map};
 ghost use Prim.Native.Nat.{_+_, _*_, _≤_};
 ghost use lib.ListN.{length};
-ghost use Rattle.machine.specs.Answer.{editedNumbers};
+ghost use Rattle.machine.specs.Answer.{editedNumbers, appliedNumbers};
 ghost use Rattle.machine.specs.Edit.{storeStep};
 ghost use Rattle.moves.specs.Over.{over};
 ghost use Rattle.seek.specs.Seek.{Good};
 ghost use Rattle.insertion.specs.Cursor.{Valid};
 ghost use Rattle.calls.specs.Counted.{isSome};
 ghost use Rattle.calls.specs.Format.{readCall, readCalls};
-ghost use Rattle.edits.specs.Apply.{appliedNumbers, callsOf, applied, ran, runCalls, applyRun};
+ghost use Rattle.edits.specs.Apply.{callsOf, applied, ran, runCalls, applyRun};
 use additions::Added;
 use calls::Counted;
 use insertion::Cursor;
+use machine::Applied;
 use machine::Edited;
 use machine::Refusal;
 use store::Checked;
-
-pub enum Applied {
-    Done(u64),
-    Refused(Refusal),
-    BadList,
-    ShortAnswers,
-}
 
 // ---- one call
 
@@ -99,11 +93,11 @@ fn apply_good(store: &mut [u64], list: &[u64], out: &mut [u64]) -> Applied
 {
     let counted = calls::count_calls(list);
     match counted {
-        Counted::Bad => Applied::BadList,
+        Counted::Bad => Applied::Refused(Refusal::BadList),
         Counted::Calls(calls) => {
             let room = (out.len() / 3) as u64;
             if room < calls {
-                return Applied::ShortAnswers;
+                return Applied::Refused(Refusal::ShortAnswers);
             }
             apply_all(store, list, out);
             Applied::Done(calls)

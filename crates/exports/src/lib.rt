@@ -2,7 +2,7 @@
 // are given by their bits.
 ghost use mathlib.Core.Path.{_≡_};
 ghost use mathlib.Core.List.{[], _∷_};
-ghost use Rattle.machine.specs.Answer.{resultNumber, editFields, findFields, writeFields, lookupFields};
+ghost use Rattle.machine.specs.Answer.{resultNumber, editFields, findFields, writeFields, applyFields, lookupFields};
 ghost use Rattle.machine.specs.Text.{optionalOf};
 ghost use Rattle.machine.specs.Store.{readStore, openRun};
 ghost use Rattle.machine.specs.Find.{findRun};
@@ -11,10 +11,9 @@ ghost use Rattle.machine.specs.Edit.{addition, storeStep};
 ghost use Rattle.machine.specs.Lookup.{lookupRun};
 ghost use Rattle.machine.specs.Write.{writeRun};
 ghost use Rattle.copies.specs.Copy.{copyRun};
-ghost use Rattle.edits.specs.Apply.{appliedNumbers, ran, applyRun};
-ghost use Rattle.exports.specs.Fields.{applyFields};
+ghost use Rattle.edits.specs.Apply.{ran, applyRun};
 ghost use Rattle.exports.specs.Version.{version};
-use edits::Applied;
+use machine::ApplyAnswer;
 use machine::EditAnswer;
 use machine::FindAnswer;
 use machine::LookupAnswer;
@@ -356,43 +355,10 @@ pub extern "C" fn jubrelti_remove_atoms_by(
 
 // ---- a list of edits
 
-#[repr(C)]
-pub struct ApplyAnswer {
-    pub result: u64,
-    pub calls: u64,
-}
-
-// "0 with its fields", or the number of what was refused.
-fn of_applied(applied: Applied) -> ApplyAnswer
-    ensures { λ r. ⌜ applyFields r ≡ appliedNumbers applied ⌝ }
-{
-    match applied {
-        Applied::Done(calls) => ApplyAnswer {
-            result: 0,
-            calls: calls,
-        },
-        Applied::Refused(refusal) => {
-            let n = answers::refusal_number(refusal);
-            ApplyAnswer {
-                result: n,
-                calls: 0,
-            }
-        }
-        Applied::BadList => ApplyAnswer {
-            result: 22,
-            calls: 0,
-        },
-        Applied::ShortAnswers => ApplyAnswer {
-            result: 23,
-            calls: 0,
-        },
-    }
-}
-
 #[no_mangle]
 pub extern "C" fn jubrelti_apply(store: &mut [u64], list: &[u64], out: &mut [u64]) -> ApplyAnswer
     ensures { λ r. ⌜ ran (applyFields r) (now (store .exit)) (now (out .exit)) ≡ applyRun (now (store .entry)) (now (list .entry)) (now (out .entry)) ⌝ }
 {
     let applied = edits::apply(store, list, out);
-    of_applied(applied)
+    answers::of_applied(applied)
 }

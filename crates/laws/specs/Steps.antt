@@ -7,7 +7,7 @@ use mathlib.Core.Option.{Option, none, some, Option·map}
 use native.Mathlib.Omega.{arith}
 use lib.ListN.{length}
 use lib.Dec.{leb, eqb}
-use borrow.Author.Tests.{leb-true, not-true}
+use borrow.Author.Tests.{leb-true, ne-eqb, not-true}
 use Rattle.machine.specs.Lists.{isEmpty, orElse, all, sum, keep, filter, nth, splice, firstWhere, lastWhere, same}
 use Rattle.machine.specs.Answer.{Result, ok, refused, _>>=_, _>>_, need, refusalNumber}
 use Rattle.machine.specs.Text.{Optional, chainId, insertionCode, conformerName, alternativeLocation, atomName, plain, trim, toUpper, pack, fit, uppercaseOr, byFlag, optional, storedBy, absentOr}
@@ -16,7 +16,7 @@ use Rattle.machine.specs.Store.{Branch, Machine, records, flat, stored, capacit
 use Rattle.machine.specs.Query.{readTree}
 use Rattle.machine.specs.Edit.{Addition, Call, AddModel, AddAtom, RemoveChain, RemoveResidue, RemoveConformer, RemoveAtom, RemoveChainById, RemoveResidueById, RemoveConformerById, RemoveAtomBySerialNumber, RemoveAtomsBy, RemoveEmpty, JoinModels, JoinChains, JoinResidues, JoinConformers, Change, up, branchAt, replaceAt, position, fits, addModel, accept, Prepare, prepare, newAtom, Which, first, last, pick, putIn, upsert, intoChains, addAtom, removeAt, root, withChildren, without, removeFirst, withFound, keepAtoms, removeAtomsBy, nonEmpty, removeEmpty, joinAt, withMachine, machineStep, answer, next}
 use Rattle.machine.specs.declared.Refusal.{Refusal}
-use Rattle.machine.specs.declared.Refusal.the-variants.{BadLength, BrokenLayout, TreeShape, TreeNode, NoPosition, BadIdentifier, BadValue, NoCapacity, JoinWithItself, ShortOutput, BadFile, TooWide, ShortText}
+use Rattle.machine.specs.declared.Refusal.the-variants.{BadLength, BrokenLayout, TreeShape, TreeNode, NoPosition, BadIdentifier, BadValue, NoCapacity, JoinWithItself, ShortOutput, BadFile, TooWide, ShortText, BadList, ShortAnswers}
 use Rattle.machine.specs.declared.Name.{Name}
 use Rattle.machine.specs.declared.Name.the-variants.{ChainId, InsertionCode, ConformerName, AlternativeLocation, AtomName}
 use Rattle.machine.specs.declared.Prepared.{Prepared}
@@ -397,21 +397,26 @@ grows-step n k m c done not-done (ok x) (holds g) = record {
   counts = omega (arith, g .more, done x);
 }
 
--- no refusal's number is that of an accepted call
+-- a refusal's number has one digit or two, and is not that of an accepted call
+pub refusal-digits : (r : Refusal) → leb 1 (refusalNumber r) && leb (refusalNumber r) 99 ≡ true
+refusal-digits BadLength = refl
+refusal-digits BrokenLayout = refl
+refusal-digits TreeShape = refl
+refusal-digits TreeNode = refl
+refusal-digits NoPosition = refl
+refusal-digits BadIdentifier = refl
+refusal-digits BadValue = refl
+refusal-digits NoCapacity = refl
+refusal-digits JoinWithItself = refl
+refusal-digits ShortOutput = refl
+refusal-digits BadFile = refl
+refusal-digits TooWide = refl
+refusal-digits ShortText = refl
+refusal-digits BadList = refl
+refusal-digits ShortAnswers = refl
+
 pub refusal-number : (r : Refusal) → eqb (refusalNumber r) 0 ≡ false
-refusal-number BadLength = refl
-refusal-number BrokenLayout = refl
-refusal-number TreeShape = refl
-refusal-number TreeNode = refl
-refusal-number NoPosition = refl
-refusal-number BadIdentifier = refl
-refusal-number BadValue = refl
-refusal-number NoCapacity = refl
-refusal-number JoinWithItself = refl
-refusal-number ShortOutput = refl
-refusal-number BadFile = refl
-refusal-number TooWide = refl
-refusal-number ShortText = refl
+refusal-number r = ne-eqb (refusalNumber r) 0 (λ e. omega (arith, leb-true 1 (refusalNumber r) (and-both _ _ (refusal-digits r) .0)))
 
 step : (n : ℕ) (m : Machine) (c : Call) → Step n m c (machineStep n m c)
 unfolding machineStep

@@ -3,20 +3,22 @@ use Prim.Native.Nat.{ℕ}
 use mathlib.Core.Bool.{Bool, true, false}
 use mathlib.Core.List.{List, [], _∷_}
 use Rattle.machine.specs.declared.Refusal.{Refusal}
-use Rattle.machine.specs.declared.Refusal.the-variants.{BadLength, BrokenLayout, TreeShape, TreeNode, NoPosition, BadIdentifier, BadValue, NoCapacity, JoinWithItself, ShortOutput, BadFile, TooWide, ShortText}
+use Rattle.machine.specs.declared.Refusal.the-variants.{BadLength, BrokenLayout, TreeShape, TreeNode, NoPosition, BadIdentifier, BadValue, NoCapacity, JoinWithItself, ShortOutput, BadFile, TooWide, ShortText, BadList, ShortAnswers}
 use Rattle.machine.specs.declared.Name.{Name}
 use Rattle.machine.specs.declared.Name.the-variants.{ChainId, InsertionCode, ConformerName, AlternativeLocation, AtomName}
 use Rattle.machine.specs.declared.Opened as Opened
 use Rattle.machine.specs.declared.Edited as Edited
 use Rattle.machine.specs.declared.Found as Found
 use Rattle.machine.specs.declared.Written as Written
+use Rattle.machine.specs.declared.Applied as Applied
 use Rattle.machine.specs.declared.LookedUp as LookedUp
 use Rattle.machine.specs.declared.EditAnswer.{EditAnswer}
 use Rattle.machine.specs.declared.FindAnswer.{FindAnswer}
 use Rattle.machine.specs.declared.WriteAnswer.{WriteAnswer}
+use Rattle.machine.specs.declared.ApplyAnswer.{ApplyAnswer}
 use Rattle.machine.specs.declared.LookupAnswer.{LookupAnswer}
 
--- "Refusal numbers by their cause"
+-- "Refusal numbers by their cause"; a list of edits as one call has two above those that document 02 names
 abbrev pub refusalNumber : Refusal → ℕ
 refusalNumber BadLength = 1
 refusalNumber BrokenLayout = 2
@@ -31,6 +33,8 @@ refusalNumber ShortOutput = 10
 refusalNumber BadFile = 11
 refusalNumber TooWide = 12
 refusalNumber ShortText = 13
+refusalNumber BadList = 22
+refusalNumber ShortAnswers = 23
 
 -- "6 bad identifier or flag", for each of the five names
 abbrev pub badName : Name → Refusal
@@ -58,6 +62,10 @@ abbrev pub writtenNumbers : Written.Written → List ℕ
 writtenNumbers (Written.the-variants.Bytes n) = 0 ∷ n ∷ []
 writtenNumbers (Written.the-variants.Refused r) = refusalNumber r ∷ 0 ∷ []
 
+abbrev pub appliedNumbers : Applied.Applied → List ℕ
+appliedNumbers (Applied.the-variants.Done calls) = 0 ∷ calls ∷ []
+appliedNumbers (Applied.the-variants.Refused r) = refusalNumber r ∷ 0 ∷ []
+
 -- "found 1 and five record numbers, or found 0 and zeros"
 abbrev pub lookedUpNumbers : LookedUp.LookedUp → List ℕ
 lookedUpNumbers (LookedUp.the-variants.At h) = 0 ∷ 1 ∷ h .model ∷ h .chain ∷ h .residue ∷ h .conformer ∷ h .atom ∷ []
@@ -73,6 +81,9 @@ findFields f = f .result ∷ f .hits ∷ []
 
 abbrev pub writeFields : WriteAnswer → List ℕ
 writeFields w = w .result ∷ w .length ∷ []
+
+abbrev pub applyFields : ApplyAnswer → List ℕ
+applyFields a = a .result ∷ a .calls ∷ []
 
 abbrev pub lookupFields : LookupAnswer → List ℕ
 lookupFields l = l .result ∷ l .found ∷ l .model ∷ l .chain ∷ l .residue ∷ l .conformer ∷ l .atom ∷ []

@@ -144,7 +144,7 @@ pub enum Name {
     AtomName,
 }
 
-// Why a call was refused, in the order of its numbers from 1.
+// Why a call was refused, in the order of the numbers.
 pub enum Refusal {
     BadLength,
     BrokenLayout,
@@ -159,6 +159,8 @@ pub enum Refusal {
     BadFile,
     TooWide,
     ShortText,
+    BadList,
+    ShortAnswers,
 }
 
 pub enum Opened {
@@ -181,6 +183,12 @@ pub enum Found {
 // The length of a text in bytes.
 pub enum Written {
     Bytes(u64),
+    Refused(Refusal),
+}
+
+// The number of edits in a list.
+pub enum Applied {
+    Done(u64),
     Refused(Refusal),
 }
 
@@ -218,6 +226,12 @@ pub struct FindAnswer {
 pub struct WriteAnswer {
     pub result: u64,
     pub length: u64,
+}
+
+#[repr(C)]
+pub struct ApplyAnswer {
+    pub result: u64,
+    pub calls: u64,
 }
 
 #[repr(C)]

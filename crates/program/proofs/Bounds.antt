@@ -7,7 +7,7 @@ use mathlib.Core.List.{List, [], _∷_, _++_, map, append-assoc}
 use native.Mathlib.Omega.{arith}
 use lib.ListN.{length, getD, take, drop, length-append, length-take, length-map}
 use lib.Dec.{leb, ltb, eqb}
-use borrow.Author.Tests.{leb-true, le-leb, ltb-true}
+use borrow.Author.Tests.{leb-true, le-leb, ltb-true, ltb-false}
 use Rattle.machine.specs.Lists.{filter, concatMap, bytes}
 use Rattle.machine.specs.Answer.{Result, ok, refused, _>>=_, _>>_, need, refusalNumber, foundNumbers}
 use Rattle.machine.specs.Store.{Machine, records, goodLength, recordsOf, goodLayout, group, readStore}
@@ -18,12 +18,13 @@ use Rattle.machine.specs.Program.{Input, wordsIn, split, readInput, digit, digi
 use Rattle.machine.specs.Demand.{atomNumber}
 use Rattle.machine.specs.declared.Node.{Node}
 use Rattle.machine.specs.declared.Refusal.{Refusal}
-use Rattle.machine.specs.declared.Refusal.the-variants.{BadLength, BrokenLayout, TreeShape, TreeNode, NoPosition, BadIdentifier, BadValue, NoCapacity, JoinWithItself, ShortOutput, BadFile, TooWide, ShortText}
+use Rattle.machine.specs.declared.Refusal.the-variants.{BadLength, BrokenLayout, TreeShape, BadFile, ShortOutput}
 use Rattle.machine.specs.declared.Found.the-variants.{Refused}
-use Rattle.laws.specs.Lists.{All}
+use Rattle.laws.specs.Lists.{All, and-both}
 use Rattle.laws.specs.Counting.{Rises, keyed-filter}
 use Rattle.laws.specs.Numbers.{siteNumber, numbers-rise}
 use Rattle.laws.specs.Layout.{read-fit}
+use Rattle.laws.specs.Steps.{refusal-digits}
 use Rattle.search.proofs.Nodes.{node-refused}
 use Rattle.demands.proofs.Runs.{fives-words, hits-five}
 use Rattle.decimals.proofs.Laws.{digits-few}
@@ -231,19 +232,17 @@ number l = getD l 8 0 * 256 + getD l 9 0
 
 ten : (r : Refusal) → printed (refused r) ≡ bytes "refused 10\n" → refusalNumber r ≡ 10
 unfolding printed digits
-ten BadLength e = absurd (omega (arith, ap number e))
-ten BrokenLayout e = absurd (omega (arith, ap number e))
-ten TreeShape e = absurd (omega (arith, ap number e))
-ten TreeNode e = absurd (omega (arith, ap number e))
-ten NoPosition e = absurd (omega (arith, ap number e))
-ten BadIdentifier e = absurd (omega (arith, ap number e))
-ten BadValue e = absurd (omega (arith, ap number e))
-ten NoCapacity e = absurd (omega (arith, ap number e))
-ten JoinWithItself e = absurd (omega (arith, ap number e))
-ten ShortOutput e = refl
-ten BadFile e = absurd (omega (arith, ap number e))
-ten TooWide e = absurd (omega (arith, ap number e))
-ten ShortText e = absurd (omega (arith, ap number e))
+ten r e =
+    let x = refusalNumber r in
+    go x (ltb x 10) (ltb (x / 10) 10) refl (leb-true x 99 (and-both (leb 1 x) (leb x 99) (refusal-digits r) .1)) (ap number e)
+  where
+    go : (n : ℕ) (b c : Bool) → ltb (n / 10) 10 ≡ c → n ≤ 99
+        → number (bytes "refused " ++ cond b (digit n ∷ []) (cond c (digit (n / 10) ∷ []) (digits 18 (n / 10 / 10) ++ (digit (n / 10 % 10) ∷ [])) ++ (digit (n % 10) ∷ [])) ++ newline)
+        ≡ number (bytes "refused 10\n")
+        → n ≡ 10
+    go n true c q l h = absurd (omega arith)
+    go n false true q l h = omega arith
+    go n false false q l h = absurd (omega (arith, ltb-false (n / 10) 10 q))
 
 -- whatever the input, the program doesn't print the refusal 10
 pub never-ten : (bs : List ℕ) → programRun bs ≡ bytes "refused 10\n" → ⊥
