@@ -160,18 +160,11 @@ fn prepare_uppercase_or(text: &[u8], other: Prepared) -> Prepared
     }
 }
 
-// For insertion codes and conformer names.
+// For conformer names.
 pub fn prepare_identifier_uppercase(text: &[u8]) -> Prepared
     ensures { λ r. ⌜ r ≡ uppercaseOr (now (text .entry)) Bad ⌝ }
 {
     prepare_uppercase_or(text, Prepared::Bad)
-}
-
-// A bad or blank alternative location is stored as absent.
-pub fn prepare_location(text: &[u8]) -> Prepared
-    ensures { λ r. ⌜ r ≡ alternativeLocation (now (text .entry)) ⌝ }
-{
-    prepare_uppercase_or(text, Prepared::Absent)
 }
 
 // An atom name is trimmed, then checked and raised; it may be empty.
@@ -205,6 +198,7 @@ pub fn prepare_optional_code(flag: u64, text: &[u8]) -> Prepared
     prepare_optional(flag, text, Prepared::Bad)
 }
 
+// A bad or blank alternative location is stored as absent.
 pub fn prepare_optional_location(flag: u64, text: &[u8]) -> Prepared
     ensures { λ r. ⌜ r ≡ byFlag flag (alternativeLocation (now (text .entry))) ⌝ }
 {
