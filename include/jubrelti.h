@@ -30,7 +30,7 @@
 
 /* The version of this header, as one number too: major * 1,000,000 + minor * 1,000 + patch. */
 #define JUBRELTI_VERSION_MAJOR 0
-#define JUBRELTI_VERSION_MINOR 3
+#define JUBRELTI_VERSION_MINOR 4
 #define JUBRELTI_VERSION_PATCH 0
 #define JUBRELTI_VERSION (JUBRELTI_VERSION_MAJOR * 1000000 + JUBRELTI_VERSION_MINOR * 1000 + JUBRELTI_VERSION_PATCH)
 
@@ -45,28 +45,32 @@
 extern "C" {
 #endif
 
-/* Results. They are checked in the order 1, 2, 5, 9, then 3 (length), 4, 3 (shape), 6, 7, 8, 12, 13, 10. The program `find` alone gives
-   11, and jubrelti_apply alone 22 and 23, after 1 and 2. */
+/* Results. They are checked in the order 1, 2, 5, 9, then 3 (length), 4, 3 (shape), 6, 14, 15, 16, 7, 8, 12, 13, 10. The program `find`
+   alone gives 11, and jubrelti_apply alone 22 and 23, after 1 and 2. */
 enum {
     /* bindings/tables: results */
     JUBRELTI_DONE = 0,
-    JUBRELTI_BAD_LENGTH = 1,       /* the store's length isn't 1 to 1,200,001 words */
-    JUBRELTI_BROKEN_LAYOUT = 2,    /* the words aren't a store: they weren't opened, or were written by others */
-    JUBRELTI_TREE_SHAPE = 3,       /* the tree's length isn't 3 to 381 words in threes, or its postfix order doesn't leave
-                                      exactly one operand */
-    JUBRELTI_TREE_NODE = 4,        /* a node has an unknown code or a bad parameter */
-    JUBRELTI_NO_POSITION = 5,      /* nothing stands at the position */
-    JUBRELTI_BAD_IDENTIFIER = 6,   /* a bad identifier or flag */
-    JUBRELTI_BAD_VALUE = 7,        /* a float that isn't finite, an element above 118, hetero above 1 */
-    JUBRELTI_NO_CAPACITY = 8,      /* the records needed exceed the store's capacity */
-    JUBRELTI_JOIN_WITH_ITSELF = 9, /* both positions of a join are the same */
-    JUBRELTI_SHORT_OUTPUT = 10,    /* the output is shorter than five words for each hit */
-    JUBRELTI_BAD_FILE = 11,        /* the input isn't a whole number of words, is empty or over 65,536 bytes, or the tree's start
-                                      lies past its last word */
-    JUBRELTI_TOO_WIDE = 12,        /* a field of a line that is written is too wide for its columns */
-    JUBRELTI_SHORT_TEXT = 13,      /* the output is shorter than the text */
-    JUBRELTI_BAD_LIST = 22,        /* the words are not a well-formed list of edits */
-    JUBRELTI_SHORT_ANSWERS = 23    /* the output is shorter than three words for each edit */
+    JUBRELTI_BAD_LENGTH = 1,          /* the store's length isn't 1 to 1,200,001 words */
+    JUBRELTI_BROKEN_LAYOUT = 2,       /* the words aren't a store: they weren't opened, or were written by others */
+    JUBRELTI_TREE_SHAPE = 3,          /* the tree's length isn't 3 to 381 words in threes, or its postfix order doesn't leave
+                                         exactly one operand */
+    JUBRELTI_TREE_NODE = 4,           /* a node has an unknown code or a bad parameter */
+    JUBRELTI_NO_POSITION = 5,         /* nothing stands at the position */
+    JUBRELTI_BAD_IDENTIFIER = 6,      /* a bad chain id */
+    JUBRELTI_BAD_VALUE = 7,           /* a float that isn't finite, an element above 118, hetero above 1 */
+    JUBRELTI_NO_CAPACITY = 8,         /* the records needed exceed the store's capacity */
+    JUBRELTI_JOIN_WITH_ITSELF = 9,    /* both positions of a join are the same */
+    JUBRELTI_SHORT_OUTPUT = 10,       /* the output is shorter than five words for each hit */
+    JUBRELTI_BAD_FILE = 11,           /* the input isn't a whole number of words, is empty or over 65,536 bytes, or the tree's
+                                         start lies past its last word */
+    JUBRELTI_TOO_WIDE = 12,           /* a field of a line that is written is too wide for its columns */
+    JUBRELTI_SHORT_TEXT = 13,         /* the output is shorter than the text */
+    JUBRELTI_BAD_INSERTION_CODE = 14, /* a bad insertion code, or a flag of one above 1 */
+    JUBRELTI_BAD_CONFORMER = 15,      /* a bad conformer name, an alternative location of over 8 bytes, or a location's flag
+                                         above 1 */
+    JUBRELTI_BAD_ATOM_NAME = 16,      /* a bad atom name */
+    JUBRELTI_BAD_LIST = 22,           /* the words are not a well-formed list of edits */
+    JUBRELTI_SHORT_ANSWERS = 23       /* the output is shorter than three words for each edit */
     /* bindings/tables: end of results */
 };
 
@@ -361,9 +365,7 @@ static const struct {
      "a node of the search has an unknown code or a bad parameter; build it from the terms there are, with texts of at most 8 "
      "printable ASCII characters"},
     {JUBRELTI_NO_POSITION, "nothing stands at this position; count from 0, from the model down, in the structure as it is now"},
-    {JUBRELTI_BAD_IDENTIFIER,
-     "a chain id, insertion code, conformer name, alternative location or atom name is bad, or a flag is over 1; use at most 8 "
-     "printable ASCII characters, and at least one except for an atom name"},
+    {JUBRELTI_BAD_IDENTIFIER, "the chain id is bad; give it 1 to 8 printable ASCII characters, not counting spaces at its ends"},
     {JUBRELTI_BAD_VALUE,
      "a coordinate, the occupancy or the B-factor is infinite or not a number, the element is over 118, or hetero is over 1; give "
      "finite numbers, and 0 for a missing element"},
@@ -376,6 +378,14 @@ static const struct {
      "a field is too wide for its columns of a PDB line; give a chain id, code and location 1 byte, a conformer name 3, an atom "
      "name 4, and numbers within the limits of docs/FORMATS.md"},
     {JUBRELTI_SHORT_TEXT, "the output has no room for the text; lend 81 bytes for each atom and twice 81 for each model"},
+    {JUBRELTI_BAD_INSERTION_CODE,
+     "the insertion code is bad, or its flag is over 1; give it 1 to 8 printable ASCII characters, not counting spaces at its "
+     "ends, or leave it out"},
+    {JUBRELTI_BAD_CONFORMER,
+     "the conformer's name is bad, its alternative location is too long, or the location's flag is over 1; give the name 1 to 8 "
+     "printable ASCII characters and the location at most 8, not counting spaces at the ends"},
+    {JUBRELTI_BAD_ATOM_NAME,
+     "the atom's name is bad; give it at most 8 printable ASCII characters, not counting spaces at its ends"},
     {JUBRELTI_BAD_LIST,
      "the list isn't well-formed, or an edit in it has over 1,024 words; give each edit the words of its code, and shorten its "
      "texts or its search"},

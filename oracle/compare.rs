@@ -1,5 +1,5 @@
-// compare [SEED] [LISTS] [READER]: the port beside pdbtbx's own files and a plain reading of document 01: small texts, trees and floats in
-// full, then random lists of calls, each also as one call; and its PDB lines beside a plain reading of change request §1 and, where the
+// compare [SEED] [LISTS] [READER]: the port beside pdbtbx's own files and a plain reading of document 01: small texts, bad names, trees and
+// floats in full, then random lists of calls, each also as one call; and its PDB lines beside a plain reading of change request §1 and, where the
 // program READER is given, read back by gemmi.
 mod fitting;
 mod floats;
@@ -7,6 +7,7 @@ mod identifiers;
 mod judges;
 mod junk;
 mod list;
+mod names;
 #[macro_use]
 mod original;
 mod plain;
@@ -83,6 +84,7 @@ fn main() {
     identifiers::compare().print("small texts in full");
     identifiers::compare_beyond_ascii();
     println!("characters above 127: the listed blanks differ, and no other");
+    names::compare().print("names of an addition, each good or bad in three ways");
     trees::compare().print("small trees in full");
     floats::compare().print("floats, each against each");
     writing::compare_limits();

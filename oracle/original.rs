@@ -31,21 +31,21 @@ fn atom(name: &[u8], v: &NewAtom) -> Option<Atom> {
     Some(unnamed)
 }
 
-// The refusal that the crate's own constructors, as `add_atom` calls them, give to an addition: 6 for a text, 7 for a float, else 0.
+// The refusal that the crate's own constructors, as `add_atom` calls them, give to an addition: by the first level that can't be made, or by
+// the atom's floats; else 0.
 pub fn refusal(call: &Call) -> u64 {
     let Call::AddAtom { chain, code, conformer, location, name, values, .. } = call else {
         return 0;
     };
     let zero = NewAtom { x: 0, y: 0, z: 0, occupancy: 0, b_factor: 0, ..*values };
-    let texts = Chain::new(text(chain).trim()).is_some()
-        && Residue::new(0, optional(code), None).is_some()
-        && Conformer::new(text(conformer), optional(location), None).is_some()
-        && atom(name, &zero).is_some();
-    match (texts, atom(name, values)) {
-        (false, _) => 6,
-        (true, None) => 7,
-        (true, Some(_)) => 0,
-    }
+    let made = [
+        (6, Chain::new(text(chain).trim()).is_some()),
+        (14, Residue::new(0, optional(code), None).is_some()),
+        (15, Conformer::new(text(conformer), optional(location), None).is_some()),
+        (16, atom(name, &zero).is_some()),
+        (7, atom(name, values).is_some()),
+    ];
+    made.iter().find(|(_, made)| !made).map_or(0, |(refusal, _)| *refusal)
 }
 
 fn model<'a>(p: &'a mut PDB, i: u64) -> &'a mut Model {

@@ -184,8 +184,8 @@ fn remove_first<T>(list: &mut Vec<T>, is: impl Fn(&T) -> bool) -> Step {
     }
 }
 
-fn flag(o: &Optional) -> Result<(), u64> {
-    if o.flag > 1 { Err(6) } else { Ok(()) }
+fn flag(o: &Optional, refusal: u64) -> Result<(), u64> {
+    if o.flag > 1 { Err(refusal) } else { Ok(()) }
 }
 
 fn room(m: &Machine, new: usize, length: usize) -> Result<(), u64> {
@@ -211,10 +211,10 @@ fn add_atom(
 ) -> Step {
     at(m, model)?;
     let id = chain_id(chain).ok_or(6u64)?;
-    let code_word = code(code_given).ok_or(6u64)?;
-    let conformer_name = raised_name(conformer).ok_or(6u64)?;
-    let location_word = location(location_given).ok_or(6u64)?;
-    let name = atom_name(name).ok_or(6u64)?;
+    let code_word = code(code_given).ok_or(14u64)?;
+    let conformer_name = raised_name(conformer).ok_or(15u64)?;
+    let location_word = location(location_given).ok_or(15u64)?;
+    let name = atom_name(name).ok_or(16u64)?;
     let finite = [v.x, v.y, v.z, v.occupancy, v.b_factor].iter().all(|b| finite(*b));
     if !finite || v.element > 118 || v.hetero > 1 {
         return Err(7);
@@ -266,12 +266,12 @@ fn step(m: &mut Machine, length: usize, call: &Call) -> Step {
         Call::RemoveChainById(i, id) => remove_first(&mut at(m, *i)?.chains, |c| matches(id, c.id)),
         Call::RemoveResidueById(p, serial, o) => {
             let residues = &mut chain_at(m, p)?.residues;
-            flag(o)?;
+            flag(o, 14)?;
             remove_first(residues, |r| r.serial == *serial && matches_optional(o, r.code))
         }
         Call::RemoveConformerById(p, name, o) => {
             let conformers = &mut residue_at(m, p)?.conformers;
-            flag(o)?;
+            flag(o, 15)?;
             remove_first(conformers, |f| matches(name, f.name) && matches_optional(o, f.location))
         }
         Call::RemoveAtomBySerialNumber(p, serial) => remove_first(&mut conformer_at(m, p)?.atoms, |a| a.values.serial == *serial),
@@ -552,8 +552,8 @@ fn lookup_in(model: &Model, serial: u64, o: &Optional) -> Option<[u64; 5]> {
 }
 
 pub fn lookup(m: &Machine, serial: u64, o: &Optional) -> Lookup {
-    if o.flag > 1 {
-        return Lookup { result: 6, found: 0, at: [0; 5] };
+    if let Err(result) = flag(o, 15) {
+        return Lookup { result, found: 0, at: [0; 5] };
     }
     match m.first().and_then(|model| lookup_in(model, serial, o)) {
         Some(at) => Lookup { result: 0, found: 1, at },

@@ -169,8 +169,11 @@ static void no_texts(void) {
     expect("open", jubrelti_open(store, LENGTH), JUBRELTI_DONE);
     expect("add model 1", jubrelti_add_model(store, LENGTH, 1).result, JUBRELTI_DONE);
     expect("a chain id may not be empty", add_texts(NULL, 0, "ALA", 0, "N"), JUBRELTI_BAD_IDENTIFIER);
-    expect("nor a code that is present", add_texts("A", 1, "ALA", 0, "N"), JUBRELTI_BAD_IDENTIFIER);
-    expect("nor a conformer's name", add_texts("A", 0, NULL, 0, "N"), JUBRELTI_BAD_IDENTIFIER);
+    expect("nor a code that is present", add_texts("A", 1, "ALA", 0, "N"), JUBRELTI_BAD_INSERTION_CODE);
+    expect("a code's flag is 0 or 1", add_texts("A", 2, NULL, 2, "\x01"), JUBRELTI_BAD_INSERTION_CODE);
+    expect("a conformer's name may not be empty", add_texts("A", 0, NULL, 2, "\x01"), JUBRELTI_BAD_CONFORMER);
+    expect("a location's flag is 0 or 1", add_texts("A", 0, "ALA", 2, "\x01"), JUBRELTI_BAD_CONFORMER);
+    expect("an atom's name has no control character", add_texts("A", 0, "ALA", 0, "\x01"), JUBRELTI_BAD_ATOM_NAME);
     expect("an atom's name may, and a location", add_texts("A", 0, "ALA", 1, NULL), JUBRELTI_DONE);
     expect("the location is stored as absent", store[3 * 12 + 2], 0);
     expect("the name is stored as 0", store[4 * 12 + 2], 0);
@@ -178,6 +181,11 @@ static void no_texts(void) {
     expect("so there is one record more", store[LENGTH - 1], 6 * 12);
     expect("look up at an absent location", jubrelti_binary_find_atom(store, LENGTH, 0, 0, NULL, 0).atom, 4);
     expect("nothing has a present empty one", jubrelti_binary_find_atom(store, LENGTH, 0, 1, NULL, 0).found, 0);
+    expect("a flag of 2 is refused", jubrelti_binary_find_atom(store, LENGTH, 0, 2, NULL, 0).result, JUBRELTI_BAD_CONFORMER);
+    expect("and in a removal of a conformer",
+           jubrelti_remove_conformer_by_id(store, LENGTH, 0, 0, 0, NULL, 0, 2, NULL, 0).result, JUBRELTI_BAD_CONFORMER);
+    expect("and of a residue", jubrelti_remove_residue_by_id(store, LENGTH, 0, 0, 7, 2, NULL, 0).result,
+           JUBRELTI_BAD_INSERTION_CODE);
     expect("no chain has an empty id", jubrelti_remove_chain_by_id(store, LENGTH, 0, NULL, 0).found, 0);
     expect("no conformer an empty name", jubrelti_remove_conformer_by_id(store, LENGTH, 0, 0, 0, NULL, 0, 0, NULL, 0).found, 0);
     expect("nor a present empty location",

@@ -24,12 +24,15 @@ class Refusals(unittest.TestCase):
 
     def test_identifiers(self):
         atom = NewAtom(1, "CA")
-        bad = [("", None, "GLY", None), ("A\u00e5", None, "GLY", None), ("A", " ", "GLY", None), ("A", None, "123456789", None)]
-        bad += [("A", None, "GLY", "123456789"), ("A", None, "", None), ("A\0", None, "GLY", None)]
-        for chain, code, name, location in bad:
-            with self.subTest((chain, code, name, location)):
-                self.refused("BadIdentifier", lambda s: s.add_atom(0, atom, chain, (1, code), (name, location)))
-        self.refused("BadIdentifier", lambda s: s.add_atom(0, NewAtom(1, "C\x7f"), "A", (1, None), GLY))
+        bad = {
+            "BadIdentifier": [("", " ", "", None), ("A\u00e5", None, "GLY", None), ("A\0", None, "GLY", None)],
+            "BadInsertionCode": [("A", " ", "GLY", None), ("A", "123456789", "", None)],
+            "BadConformer": [("A", None, "", None), ("A", None, "123456789", None), ("A", None, "GLY", "123456789")],
+        }
+        for refusal, chain, code, name, location in ((refusal, *names) for refusal, rows in bad.items() for names in rows):
+            with self.subTest((refusal, chain, code, name, location)):
+                self.refused(refusal, lambda s: s.add_atom(0, atom, chain, (1, code), (name, location)))
+        self.refused("BadAtomName", lambda s: s.add_atom(0, NewAtom(1, "C\x7f"), "A", (1, None), GLY))
 
     def test_values(self):
         for field in ("x", "y", "z", "occupancy", "b_factor"):
@@ -66,7 +69,7 @@ class Refusals(unittest.TestCase):
             self.assertEqual((error.number, error.name, str(error), repr(error)), (number, name, sentence, f"Error({number})"))
             self.assertIn("; ", sentence)
             self.assertTrue(cause)
-        self.assertEqual([row[0] for row in REFUSALS], [*range(1, 14), 22, 23])
+        self.assertEqual([row[0] for row in REFUSALS], [*range(1, 17), 22, 23])
         with self.assertRaisesRegex(RuntimeError, "refusal 99 is unknown"):
             check(99)
 

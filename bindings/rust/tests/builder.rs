@@ -60,7 +60,7 @@ fn all_or_none() {
     let before = store.words().to_vec();
     let refusals = [
         (NewAtom { b_factor: f64::INFINITY, ..atom(4) }, "A", Error::BadValue),
-        (NewAtom { name: "C\u{e5}", ..atom(4) }, "A", Error::BadIdentifier),
+        (NewAtom { name: "C\u{e5}", ..atom(4) }, "A", Error::BadAtomName),
         (atom(4), "", Error::BadIdentifier),
     ];
     for (refused, chain, cause) in refusals {

@@ -36,10 +36,15 @@ fn edits() {
     };
     assert_eq!(add(atom, "", None, "GLY", None), Error::BadIdentifier);
     assert_eq!(add(atom, "A\u{e5}", None, "GLY", None), Error::BadIdentifier);
-    assert_eq!(add(atom, "A", Some(" "), "GLY", None), Error::BadIdentifier);
-    assert_eq!(add(atom, "A", None, "123456789", None), Error::BadIdentifier);
-    assert_eq!(add(atom, "A", None, "GLY", Some("123456789")), Error::BadIdentifier);
-    assert_eq!(add(NewAtom { name: "C\t\u{7f}", ..atom }, "A", None, "GLY", None), Error::BadIdentifier);
+    assert_eq!(add(atom, "A", Some(" "), "GLY", None), Error::BadInsertionCode);
+    assert_eq!(add(atom, "A", None, "123456789", None), Error::BadConformer);
+    assert_eq!(add(atom, "A", None, "GLY", Some("123456789")), Error::BadConformer);
+    assert_eq!(add(NewAtom { name: "C\t\u{7f}", ..atom }, "A", None, "GLY", None), Error::BadAtomName);
+    let bad = NewAtom { name: "C\u{7f}", x: f64::NAN, ..atom };
+    assert_eq!(add(bad, "", Some(""), "", Some("123456789")), Error::BadIdentifier);
+    assert_eq!(add(bad, "A", Some(""), "", Some("123456789")), Error::BadInsertionCode);
+    assert_eq!(add(bad, "A", None, "", Some("123456789")), Error::BadConformer);
+    assert_eq!(add(bad, "A", None, "GLY", None), Error::BadAtomName);
     assert_eq!(add(NewAtom { x: f64::NAN, ..atom }, "A", None, "GLY", None), Error::BadValue);
     assert_eq!(add(NewAtom { occupancy: f64::INFINITY, ..atom }, "A", None, "GLY", None), Error::BadValue);
     assert_eq!(refused(|s| s.add_atom(1, atom, "A", (1, None), ("GLY", None))), Error::NoPosition);
@@ -118,6 +123,9 @@ fn numbers_and_sentences() {
         (11, Error::BadFile),
         (12, Error::TooWide),
         (13, Error::ShortText),
+        (14, Error::BadInsertionCode),
+        (15, Error::BadConformer),
+        (16, Error::BadAtomName),
         (22, Error::BadList),
         (23, Error::ShortAnswers),
         (99, Error::Unknown(99)),

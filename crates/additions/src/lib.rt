@@ -55,7 +55,7 @@ enum Readied {
     Refused(Refusal),
 }
 
-// "6 (chain, code, conformer, location, atom name)"
+// The first bad name, of chain, code, conformer, location and atom name, is the one that is answered.
 fn ready(
     chain: &[u8],
     code_flag: u64,

@@ -1,6 +1,6 @@
 -- The numbers of an answer, case by case. Assumes nothing.
 use Prim.Native.Nat.{ℕ}
-use mathlib.Core.Path.{_≡_}
+use mathlib.Core.Path.{_≡_, sym, ap}
 use mathlib.Core.List.{[], _∷_}
 use Rattle.machine.specs.Answer.{refusalNumber, openedNumbers, editedNumbers, foundNumbers, writtenNumbers, appliedNumbers, lookedUpNumbers, editFields, findFields, writeFields, applyFields, lookupFields}
 use Rattle.machine.specs.declared.Refusal.{Refusal}
@@ -12,6 +12,9 @@ use Rattle.machine.specs.declared.Written as Written
 use Rattle.machine.specs.declared.Applied as Applied
 use Rattle.machine.specs.declared.LookedUp as LookedUp
 use Rattle.machine.specs.declared.LookupAnswer.{LookupAnswer}
+
+pub numbered : {r s : Refusal} → r ≡ s → refusalNumber s ≡ refusalNumber r
+numbered e = ap refusalNumber (sym e)
 
 pub open-done : (o : Opened.Opened) → o ≡ Opened.the-variants.Done → (0 ∷ []) ≡ openedNumbers o
 open-done o h = rw h

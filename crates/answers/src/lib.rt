@@ -34,21 +34,24 @@ pub fn refusal_number(r: Refusal) -> u64
         Refusal::BadFile => 11,
         Refusal::TooWide => 12,
         Refusal::ShortText => 13,
+        Refusal::BadInsertionCode => 14,
+        Refusal::BadConformer => 15,
+        Refusal::BadAtomName => 16,
         Refusal::BadList => 22,
         Refusal::ShortAnswers => 23,
     }
 }
 
-// "6 bad identifier or flag", for each of the five names
+// Which name was bad (change request §2).
 pub fn bad_name(name: Name) -> Refusal
     ensures { λ r. ⌜ r ≡ badName name ⌝ }
 {
     match name {
         Name::ChainId => Refusal::BadIdentifier,
-        Name::InsertionCode => Refusal::BadIdentifier,
-        Name::ConformerName => Refusal::BadIdentifier,
-        Name::AlternativeLocation => Refusal::BadIdentifier,
-        Name::AtomName => Refusal::BadIdentifier,
+        Name::InsertionCode => Refusal::BadInsertionCode,
+        Name::ConformerName => Refusal::BadConformer,
+        Name::AlternativeLocation => Refusal::BadConformer,
+        Name::AtomName => Refusal::BadAtomName,
     }
 }
 

@@ -18,14 +18,13 @@ use Rattle.seek.specs.Seek.{Within, recordsIn}
 
 -- ---- over the machine
 
--- an optional text as given
 -- chains and residues are asked for a span, a conformer for its location and an atom too, an atom for its serial
 unfoldable pub wanted : (k : ℕ) → ℕ → Optional → Branch k → Bool
 wanted zero serial o a = eqb serial (a .serial)
 wanted (suc zero) serial o f = hasAtom serial o f
 wanted (suc (suc k)) serial o t = spans serial (serials (suc (suc k)) t)
 
--- the answer's numbers for a store that holds m: "only a bad flag gives 6"
+-- the answer's numbers for a store that holds m
 abbrev pub lookupNumbers : ℕ → Optional → Machine → List ℕ
 lookupNumbers serial o m = lookedUp (need (goodFlag o) (badName AlternativeLocation) >> ok (inFirst serial o m))
 

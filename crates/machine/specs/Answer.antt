@@ -3,7 +3,7 @@ use Prim.Native.Nat.{ℕ}
 use mathlib.Core.Bool.{Bool, true, false}
 use mathlib.Core.List.{List, [], _∷_}
 use Rattle.machine.specs.declared.Refusal.{Refusal}
-use Rattle.machine.specs.declared.Refusal.the-variants.{BadLength, BrokenLayout, TreeShape, TreeNode, NoPosition, BadIdentifier, BadValue, NoCapacity, JoinWithItself, ShortOutput, BadFile, TooWide, ShortText, BadList, ShortAnswers}
+use Rattle.machine.specs.declared.Refusal.the-variants.{BadLength, BrokenLayout, TreeShape, TreeNode, NoPosition, BadIdentifier, BadValue, NoCapacity, JoinWithItself, ShortOutput, BadFile, TooWide, ShortText, BadInsertionCode, BadConformer, BadAtomName, BadList, ShortAnswers}
 use Rattle.machine.specs.declared.Name.{Name}
 use Rattle.machine.specs.declared.Name.the-variants.{ChainId, InsertionCode, ConformerName, AlternativeLocation, AtomName}
 use Rattle.machine.specs.declared.Opened as Opened
@@ -33,16 +33,20 @@ refusalNumber ShortOutput = 10
 refusalNumber BadFile = 11
 refusalNumber TooWide = 12
 refusalNumber ShortText = 13
+refusalNumber BadInsertionCode = 14
+refusalNumber BadConformer = 15
+refusalNumber BadAtomName = 16
 refusalNumber BadList = 22
 refusalNumber ShortAnswers = 23
 
--- "6 bad identifier or flag", for each of the five names
+-- change request §2: "Keep 6 for the chain id only. A refused insertion code or its flag now has its own answer, so has a conformer name or an
+-- alternative location with its flag, and so has an atom name."
 abbrev pub badName : Name → Refusal
 badName ChainId = BadIdentifier
-badName InsertionCode = BadIdentifier
-badName ConformerName = BadIdentifier
-badName AlternativeLocation = BadIdentifier
-badName AtomName = BadIdentifier
+badName InsertionCode = BadInsertionCode
+badName ConformerName = BadConformer
+badName AlternativeLocation = BadConformer
+badName AtomName = BadAtomName
 
 -- "A refusal gives its number, zero in every other field"
 abbrev pub openedNumbers : Opened.Opened → List ℕ

@@ -99,7 +99,7 @@ fits n m = need (leb (length (records m)) (capacity n)) NoCapacity >> ok (change
 unfoldable pub addModel : ℕ → ℕ → Machine → Result Change
 addModel n serial m = fits n (m ++ ((record { serial = serial }, []) ∷ []))
 
--- "6 bad identifier or flag"
+-- a name that is bad has its own refusal; what is absent is stored as 0
 abbrev pub accept : Name → Prepared → Result ℕ
 accept n (Stored w) = ok w
 accept n Absent = ok 0
@@ -113,7 +113,7 @@ pub record Prepare : Type 0 where
   pub location : ℕ
   pub name : ℕ
 
--- "6 (chain, code, conformer, location, atom name)"
+-- "(chain, code, conformer, location, atom name)"; change request §2: "checked where 6 was checked for each"
 unfoldable pub prepare : Addition → Result Prepare
 prepare a = do
   chain ← accept ChainId (chainId (a .chain))

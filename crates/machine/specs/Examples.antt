@@ -8,12 +8,12 @@ use lib.ListN.{length, replicate}
 use lib.Ieee.{ofBits, sub, lt}
 use Rattle.machine.specs.Lists.{bytes, concatMap}
 use Rattle.machine.specs.Answer.{Result, ok, refused, refusalNumber}
-use Rattle.machine.specs.Text.{packed, pack, unpacked, withoutZeros, textOf, trimStart, trim, chainId, uppercaseOr, atomName, alternativeLocation, insertionCode, matches, matchesOptional, storedBy, packedText, before}
+use Rattle.machine.specs.Text.{packed, pack, unpacked, withoutZeros, textOf, trimStart, trim, chainId, uppercaseOr, atomName, alternativeLocation, insertionCode, Optional, matches, matchesOptional, storedBy, packedText, before}
 use Rattle.machine.specs.Record.{words, fieldsOf, goodValues, goodFields, goodRecord, readOut}
 use Rattle.machine.specs.Store.{flat, atomCount, laid, layOut, inOrder, goodLayout, sections, group, readStore, openRun}
 use Rattle.machine.specs.Query.{codes, nodeOf, nodesOf, run, leavesOne, readTree, treeValue, termValue, tables, packedName}
 use Rattle.machine.specs.Find.{enter, atomsIn, atomsOf, hitsIn, hitsOf, findRun}
-use Rattle.machine.specs.Edit.{Call, AddModel, AddAtom, RemoveChain, RemoveAtom, RemoveChainById, RemoveResidueById, RemoveConformerById, RemoveAtomBySerialNumber, RemoveAtomsBy, RemoveEmpty, JoinModels, JoinResidues, branchAt, replaceAt, addModel, prepare, upsert, addAtom, removeAt, removeFirst, keepAtoms, removeAtomsBy, nonEmpty, removeEmpty, joinAt, machineStep, stepBy, storeStep, storeAfter, storeAnswers}
+use Rattle.machine.specs.Edit.{addition, Call, AddModel, AddAtom, RemoveChain, RemoveAtom, RemoveChainById, RemoveResidueById, RemoveConformerById, RemoveAtomBySerialNumber, RemoveAtomsBy, RemoveEmpty, JoinModels, JoinResidues, branchAt, replaceAt, addModel, prepare, upsert, addAtom, removeAt, removeFirst, keepAtoms, removeAtomsBy, nonEmpty, removeEmpty, joinAt, machineStep, stepBy, storeStep, storeAfter, storeAnswers}
 use Rattle.machine.specs.Lookup.{numbered, serials, lookupIn, lookupRun}
 use Rattle.machine.specs.Program.{readInput, digits, printed, programRun}
 use Rattle.machine.specs.Cases.{record12, store, S, node, element7, found, absent, present, atom, zeros, atomRecord, file, eightBytes, Case}
@@ -73,6 +73,24 @@ twoChains = store 61 (record12 (1 ∷ 1 ∷ []) ∷ record12 (2 ∷ packedName "
 
 abbrev oneModel : List ℕ
 oneModel = store 73 (record12 (1 ∷ 1 ∷ []) ∷ [])
+
+-- ---- names
+
+abbrev badFlag : Optional
+badFlag = record { flag = 2; text = [] }
+
+abbrev overEight : Optional
+overEight = present "ABCDEFGHI"
+
+-- the answer to an atom with these names and this element, in a model that has no room for it
+abbrev named : List ℕ → Optional → List ℕ → Optional → List ℕ → ℕ → List ℕ
+named chain code conformer location name element =
+    lines
+    (storeAnswers (store 13 (record12 (1 ∷ []) ∷ []))
+    (AddAtom 0
+    (addition chain 7 code conformer location name
+    (record { serial = 1; x = 0; y = 0; z = 0; occupancy = 0; «b_factor» = 0; element = element; charge = 0; hetero = 0 }))
+    ∷ []))
 
 -- ---- the table
 
@@ -145,12 +163,23 @@ examples =
     ∷ example (storeAfter S (RemoveChain 0 1 ∷ RemoveChain 0 0 ∷ [])) oneModel
     ∷ example (lines (onS (RemoveChainById 0 (bytes "a") ∷ RemoveChainById 0 (bytes "A") ∷ []))) (0 ∷ 0 ∷ 0 ∷ 0 ∷ 1 ∷ 2 ∷ [])
     ∷ example (lines (onS (RemoveAtomBySerialNumber 0 0 0 0 0 ∷ []))) (0 ∷ 1 ∷ 1 ∷ [])
-    ∷ example (lines (onS (RemoveResidueById 0 0 7 (record { flag = 2; text = [] }) ∷ RemoveResidueById 0 9 7 (record { flag = 2; text = [] }) ∷ []))) (6 ∷ 0 ∷ 0 ∷ 5 ∷ 0 ∷ 0 ∷ [])
+    ∷ example (lines (onS (RemoveResidueById 0 0 7 badFlag ∷ RemoveResidueById 0 9 7 badFlag ∷ []))) (14 ∷ 0 ∷ 0 ∷ 5 ∷ 0 ∷ 0 ∷ [])
+    ∷ example (lines (onS (RemoveConformerById 0 0 0 (bytes "ALA") badFlag ∷ RemoveConformerById 0 0 9 [] badFlag ∷ []))) (15 ∷ 0 ∷ 0 ∷ 5 ∷ 0 ∷ 0 ∷ [])
     ∷ example (lines (onS (RemoveConformerById 0 0 0 (bytes "ALA") (present " ") ∷ RemoveConformerById 0 0 0 (bytes "ALA") absent ∷ []))) (0 ∷ 0 ∷ 0 ∷ 0 ∷ 1 ∷ 2 ∷ [])
     ∷ example (lines (onS (RemoveAtomsBy 0 element7 ∷ RemoveAtomsBy 0 (node 3 (packedName "A") 0) ∷ RemoveAtomsBy 0 [] ∷ []))) (0 ∷ 1 ∷ 1 ∷ 0 ∷ 1 ∷ 0 ∷ 3 ∷ 0 ∷ 0 ∷ [])
     ∷ example (storeAfter S (RemoveAtom 0 0 0 0 1 ∷ RemoveAtom 0 0 0 0 0 ∷ RemoveEmpty 0 ∷ [])) oneModel
     -- codes and locations of an addition are compared as given
     ∷ example (lines (storeAnswers (zeros 109) (AddModel 1 ∷ AddAtom 0 (atom 1 (present "A")) ∷ AddAtom 0 (atom 2 (present " A")) ∷ AddAtom 0 (atom 3 (present "A ")) ∷ []))) (0 ∷ 1 ∷ 0 ∷ 0 ∷ 1 ∷ 0 ∷ 0 ∷ 1 ∷ 0 ∷ 8 ∷ 0 ∷ 0 ∷ [])
+    -- which name was bad: each row has one bad name less, then a bad value, then no room
+    ∷ example (named [] badFlag [] badFlag (127 ∷ []) 119) (6 ∷ 0 ∷ 0 ∷ [])
+    ∷ example (named (bytes "A") badFlag [] badFlag (127 ∷ []) 119) (14 ∷ 0 ∷ 0 ∷ [])
+    ∷ example (named (bytes "A") overEight [] badFlag (127 ∷ []) 119) (14 ∷ 0 ∷ 0 ∷ [])
+    ∷ example (named (bytes "A") absent [] badFlag (127 ∷ []) 119) (15 ∷ 0 ∷ 0 ∷ [])
+    ∷ example (named (bytes "A") absent (bytes "ALA") badFlag (127 ∷ []) 119) (15 ∷ 0 ∷ 0 ∷ [])
+    ∷ example (named (bytes "A") absent (bytes "ALA") overEight (127 ∷ []) 119) (15 ∷ 0 ∷ 0 ∷ [])
+    ∷ example (named (bytes "A") absent (bytes "ALA") (present "\t") (127 ∷ []) 119) (16 ∷ 0 ∷ 0 ∷ [])
+    ∷ example (named (bytes "A") absent (bytes "ALA") absent (bytes "N") 119) (7 ∷ 0 ∷ 0 ∷ [])
+    ∷ example (named (bytes "A") absent (bytes "ALA") absent (bytes "N") 118) (8 ∷ 0 ∷ 0 ∷ [])
     -- joins: nothing is merged; 5 comes before 9
     ∷ example (storeAfter twoModels (JoinModels 0 1 ∷ [])) twoChains
     ∷ example (lines (onS (JoinResidues 0 0 0 0 0 0 ∷ JoinResidues 0 0 1 0 0 1 ∷ []))) (9 ∷ 0 ∷ 0 ∷ 5 ∷ 0 ∷ 0 ∷ [])
@@ -159,7 +188,7 @@ examples =
     ∷ example (lookupRun serialStore 5 (present "B")) (replicate 7 0)
     ∷ example (lookupRun serialStore 6 absent) (replicate 7 0)
     ∷ example (lookupRun (zeros 13) 5 absent) (replicate 7 0)
-    ∷ example (lookupRun (zeros 13) 5 (record { flag = 2; text = [] })) (6 ∷ replicate 6 0)
+    ∷ example (lookupRun (zeros 13) 5 badFlag) (15 ∷ replicate 6 0)
     -- the program: a start equal to the last index is taken, one above it isn't
     ∷ example (programRun []) (bytes "refused 11\n")
     ∷ example (programRun (zeros 9)) (bytes "refused 11\n")

@@ -58,7 +58,7 @@ lookedUp (ok none) = lookedUpNumbers LookedUp.the-variants.NotFound
 lookedUp (ok (some h)) = lookedUpNumbers (LookedUp.the-variants.At h)
 lookedUp (refused r) = lookedUpNumbers (LookedUp.the-variants.Refused r)
 
--- the answer's numbers; "only a bad flag gives 6"
+-- the answer's numbers; change request §2: "By-id removals and lookup answer a bad flag the same way."
 unfoldable pub lookupRun : List ℕ → ℕ → Optional → List ℕ
 lookupRun w serial location = lookedUp do
   m ← readStore w

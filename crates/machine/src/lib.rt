@@ -159,6 +159,9 @@ pub enum Refusal {
     BadFile,
     TooWide,
     ShortText,
+    BadInsertionCode,
+    BadConformer,
+    BadAtomName,
     BadList,
     ShortAnswers,
 }
