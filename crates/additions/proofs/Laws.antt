@@ -142,52 +142,63 @@ pub word-bad : (p : Prepared) → p ≡ Bad → Word.the-variants.Bad ≡ wordOf
 word-bad p e = rw e
 
 -- what word_of tells of a prepared name
-pub accepted : (n : Name) (p q : Prepared) (r : Word.Word) (w : ℕ) → p ≡ q → r ≡ wordOf p → r ≡ Word.the-variants.Is w → accept n q ≡ ok w
-accepted n p q r w d e f = go q (ap wordOf (sym d) ∙ sym e ∙ f)
+accepted : (n : Name) {p q : Prepared} {r : Word.Word} {w : ℕ} → p ≡ q → r ≡ wordOf p → r ≡ Word.the-variants.Is w → accept n q ≡ ok w
+accepted n {p} {q} {r} {w} d e f = go q (ap wordOf (sym d) ∙ sym e ∙ f)
   where
     go : (x : Prepared) → wordOf x ≡ Word.the-variants.Is w → accept n x ≡ ok w
     go (Stored v) h = let z : v ≡ w = cc in rw z
     go Absent h = let z : 0 ≡ w = cc in rw z
     go Bad h = let z : _≡_ {A = ℕ} 0 1 = cc in absurd (omega arith)
 
-pub declined : (n : Name) (p q : Prepared) (r : Word.Word) (x : Refusal) → p ≡ q → r ≡ wordOf p → r ≡ Word.the-variants.Bad → x ≡ badName n → accept n q ≡ refused x
-declined n p q r x d e f b = go q (ap wordOf (sym d) ∙ sym e ∙ f)
+declined : (n : Name) {p q : Prepared} {r : Word.Word} {x : Refusal} → p ≡ q → r ≡ wordOf p → r ≡ Word.the-variants.Bad → x ≡ badName n → accept n q ≡ refused x
+declined n {p} {q} {r} {x} d e f b = go q (ap wordOf (sym d) ∙ sym e ∙ f)
   where
     go : (t : Prepared) → wordOf t ≡ Word.the-variants.Bad → accept n t ≡ refused x
     go (Stored v) h = let z : _≡_ {A = ℕ} 0 1 = cc in absurd (omega arith)
     go Absent h = let z : _≡_ {A = ℕ} 0 1 = cc in absurd (omega arith)
     go Bad h = rw b
 
--- the first name that is bad, and all five
-module _ (a : Addition) where
-  pub bad-chain : {r : Refusal} → accept ChainId (chainId (a .chain)) ≡ refused r → refused r ≡ prepare a
+-- the first name that is bad, and all five: p is a name prepared, r its word
+module _ (a : Addition) (p₁ : Prepared) (r₁ : Word.Word) (d₁ : p₁ ≡ chainId (a .chain)) (f₁ : r₁ ≡ wordOf p₁) where
+  pub bad-chain : (x : Refusal) → r₁ ≡ Word.the-variants.Bad → x ≡ badName ChainId → refused x ≡ prepare a
   unfolding prepare
-  bad-chain e = rw e
+  bad-chain x b e = rw (declined ChainId d₁ f₁ b e)
 
-  module _ (w₁ : ℕ) (e₁ : accept ChainId (chainId (a .chain)) ≡ ok w₁) where
-    pub bad-code : {r : Refusal} → accept InsertionCode (optional insertionCode (a .code)) ≡ refused r → refused r ≡ prepare a
+  module _ (w₁ : ℕ) (e₁ : r₁ ≡ Word.the-variants.Is w₁) (p₂ : Prepared) (r₂ : Word.Word) (d₂ : p₂ ≡ optional insertionCode (a .code)) (f₂ : r₂ ≡ wordOf p₂) where
+    c₁ : accept ChainId (chainId (a .chain)) ≡ ok w₁
+    c₁ = accepted ChainId d₁ f₁ e₁
+
+    pub bad-code : (x : Refusal) → r₂ ≡ Word.the-variants.Bad → x ≡ badName InsertionCode → refused x ≡ prepare a
     unfolding prepare
-    bad-code e = rw (e₁, e)
+    bad-code x b e = rw (c₁, declined InsertionCode d₂ f₂ b e)
 
-    module _ (w₂ : ℕ) (e₂ : accept InsertionCode (optional insertionCode (a .code)) ≡ ok w₂) where
-      pub bad-conformer : {r : Refusal} → accept ConformerName (conformerName (a .conformer)) ≡ refused r → refused r ≡ prepare a
+    module _ (w₂ : ℕ) (e₂ : r₂ ≡ Word.the-variants.Is w₂) (p₃ : Prepared) (r₃ : Word.Word) (d₃ : p₃ ≡ conformerName (a .conformer)) (f₃ : r₃ ≡ wordOf p₃) where
+      c₂ : accept InsertionCode (optional insertionCode (a .code)) ≡ ok w₂
+      c₂ = accepted InsertionCode d₂ f₂ e₂
+
+      pub bad-conformer : (x : Refusal) → r₃ ≡ Word.the-variants.Bad → x ≡ badName ConformerName → refused x ≡ prepare a
       unfolding prepare
-      bad-conformer e = rw (e₁, e₂, e)
+      bad-conformer x b e = rw (c₁, c₂, declined ConformerName d₃ f₃ b e)
 
-      module _ (w₃ : ℕ) (e₃ : accept ConformerName (conformerName (a .conformer)) ≡ ok w₃) where
-        pub bad-location : {r : Refusal} → accept AlternativeLocation (optional alternativeLocation (a .location)) ≡ refused r → refused r ≡ prepare a
+      module _ (w₃ : ℕ) (e₃ : r₃ ≡ Word.the-variants.Is w₃) (p₄ : Prepared) (r₄ : Word.Word) (d₄ : p₄ ≡ optional alternativeLocation (a .location)) (f₄ : r₄ ≡ wordOf p₄) where
+        c₃ : accept ConformerName (conformerName (a .conformer)) ≡ ok w₃
+        c₃ = accepted ConformerName d₃ f₃ e₃
+
+        pub bad-location : (x : Refusal) → r₄ ≡ Word.the-variants.Bad → x ≡ badName AlternativeLocation → refused x ≡ prepare a
         unfolding prepare
-        bad-location e = rw (e₁, e₂, e₃, e)
+        bad-location x b e = rw (c₁, c₂, c₃, declined AlternativeLocation d₄ f₄ b e)
 
-        module _ (w₄ : ℕ) (e₄ : accept AlternativeLocation (optional alternativeLocation (a .location)) ≡ ok w₄) where
-          pub bad-atom-name : {r : Refusal} → accept AtomName (atomName (a .name)) ≡ refused r → refused r ≡ prepare a
+        module _ (w₄ : ℕ) (e₄ : r₄ ≡ Word.the-variants.Is w₄) (p₅ : Prepared) (r₅ : Word.Word) (d₅ : p₅ ≡ atomName (a .name)) (f₅ : r₅ ≡ wordOf p₅) where
+          c₄ : accept AlternativeLocation (optional alternativeLocation (a .location)) ≡ ok w₄
+          c₄ = accepted AlternativeLocation d₄ f₄ e₄
+
+          pub bad-atom-name : (x : Refusal) → r₅ ≡ Word.the-variants.Bad → x ≡ badName AtomName → refused x ≡ prepare a
           unfolding prepare
-          bad-atom-name e = rw (e₁, e₂, e₃, e₄, e)
+          bad-atom-name x b e = rw (c₁, c₂, c₃, c₄, declined AtomName d₅ f₅ b e)
 
-          module _ (w₅ : ℕ) (e₅ : accept AtomName (atomName (a .name)) ≡ ok w₅) where
-            pub all-ready : ok (record { chain = w₁; code = w₂; conformer = w₃; location = w₄; name = w₅ }) ≡ prepare a
-            unfolding prepare
-            all-ready = rw (e₁, e₂, e₃, e₄, e₅)
+          pub all-ready : (w₅ : ℕ) → r₅ ≡ Word.the-variants.Is w₅ → ok (record { chain = w₁; code = w₂; conformer = w₃; location = w₄; name = w₅ }) ≡ prepare a
+          unfolding prepare
+          all-ready w₅ e₅ = rw (c₁, c₂, c₃, c₄, accepted AtomName d₅ f₅ e₅)
 
 -- ---- good_values
 

@@ -1,6 +1,5 @@
 -- `additions::ready` meets its contract: the first name that is bad ends it. Assumes nothing.
-use Rattle.machine.specs.declared.Name.the-variants.{ChainId, InsertionCode, ConformerName, AlternativeLocation, AtomName}
-use Rattle.additions.proofs.Laws.{accepted, declined, bad-chain, bad-code, bad-conformer, bad-location, bad-atom-name, all-ready}
+use Rattle.additions.proofs.Laws.{bad-chain, bad-code, bad-conformer, bad-location, bad-atom-name, all-ready}
 use borrow.Author.Needs.{needs}
 use Rattle.additions.proofs.ready.Statement.{statement}
 use Rattle.additions.proofs.ready.Tie as tie
@@ -21,10 +20,7 @@ bad-name-requires : tie.Need-bad-name-requires
 bad-name-requires c κs = search needs
 
 returns : tie.Need-returns
-returns c =
-    let s1 = c .before .before .before in
-    bad-chain _
-    (declined ChainId _ _ _ _ (s1 .before .prepare-chain-id .ensures) (s1 .word-of .ensures) (c .before .enum-told .given .1) (c .bad-name .ensures))
+returns c = search (needs, bad-chain)
 
 prepare-optional-code-requires : tie.Need-prepare-optional-code-requires
 prepare-optional-code-requires c κs = search needs
@@ -42,12 +38,7 @@ bad-name-requires-2 : tie.Need-bad-name-requires-2
 bad-name-requires-2 c κs = search needs
 
 returns-2 : tie.Need-returns-2
-returns-2 c =
-    let s2 = c .before .before .before in
-    let s1 = s2 .before .before .before .before .before in
-    bad-code _ _
-    (accepted ChainId _ _ _ _ (s1 .before .prepare-chain-id .ensures) (s1 .word-of .ensures) (s2 .before .before .before .chain-word .given .1))
-    (declined InsertionCode _ _ _ _ (s2 .before .prepare-optional-code .ensures) (s2 .word-of2 .ensures) (c .before .enum-told2 .given .1) (c .bad-name2 .ensures))
+returns-2 c = search (needs, bad-code)
 
 prepare-identifier-uppercase-requires : tie.Need-prepare-identifier-uppercase-requires
 prepare-identifier-uppercase-requires c κs = search needs
@@ -65,14 +56,7 @@ bad-name-requires-3 : tie.Need-bad-name-requires-3
 bad-name-requires-3 c κs = search needs
 
 returns-3 : tie.Need-returns-3
-returns-3 c =
-    let s3 = c .before .before .before in
-    let s2 = s3 .before .before .before .before .before in
-    let s1 = s2 .before .before .before .before .before in
-    bad-conformer _ _
-    (accepted ChainId _ _ _ _ (s1 .before .prepare-chain-id .ensures) (s1 .word-of .ensures) (s2 .before .before .before .chain-word .given .1)) _
-    (accepted InsertionCode _ _ _ _ (s2 .before .prepare-optional-code .ensures) (s2 .word-of2 .ensures) (s3 .before .before .before .code-word .given .1))
-    (declined ConformerName _ _ _ _ (s3 .before .prepare-identifier-uppercase .ensures) (s3 .word-of3 .ensures) (c .before .enum-told3 .given .1) (c .bad-name3 .ensures))
+returns-3 c = search (needs, bad-conformer)
 
 prepare-optional-location-requires : tie.Need-prepare-optional-location-requires
 prepare-optional-location-requires c κs = search needs
@@ -90,16 +74,7 @@ bad-name-requires-4 : tie.Need-bad-name-requires-4
 bad-name-requires-4 c κs = search needs
 
 returns-4 : tie.Need-returns-4
-returns-4 c =
-    let s4 = c .before .before .before in
-    let s3 = s4 .before .before .before .before .before in
-    let s2 = s3 .before .before .before .before .before in
-    let s1 = s2 .before .before .before .before .before in
-    bad-location _ _
-    (accepted ChainId _ _ _ _ (s1 .before .prepare-chain-id .ensures) (s1 .word-of .ensures) (s2 .before .before .before .chain-word .given .1)) _
-    (accepted InsertionCode _ _ _ _ (s2 .before .prepare-optional-code .ensures) (s2 .word-of2 .ensures) (s3 .before .before .before .code-word .given .1)) _
-    (accepted ConformerName _ _ _ _ (s3 .before .prepare-identifier-uppercase .ensures) (s3 .word-of3 .ensures) (s4 .before .before .before .conformer-word .given .1))
-    (declined AlternativeLocation _ _ _ _ (s4 .before .prepare-optional-location .ensures) (s4 .word-of4 .ensures) (c .before .enum-told4 .given .1) (c .bad-name4 .ensures))
+returns-4 c = search (needs, bad-location)
 
 prepare-atom-name-requires : tie.Need-prepare-atom-name-requires
 prepare-atom-name-requires c κs = search needs
@@ -117,32 +92,10 @@ bad-name-requires-5 : tie.Need-bad-name-requires-5
 bad-name-requires-5 c κs = search needs
 
 returns-5 : tie.Need-returns-5
-returns-5 c =
-    let s5 = c .before .before .before in
-    let s4 = s5 .before .before .before .before .before in
-    let s3 = s4 .before .before .before .before .before in
-    let s2 = s3 .before .before .before .before .before in
-    let s1 = s2 .before .before .before .before .before in
-    bad-atom-name _ _
-    (accepted ChainId _ _ _ _ (s1 .before .prepare-chain-id .ensures) (s1 .word-of .ensures) (s2 .before .before .before .chain-word .given .1)) _
-    (accepted InsertionCode _ _ _ _ (s2 .before .prepare-optional-code .ensures) (s2 .word-of2 .ensures) (s3 .before .before .before .code-word .given .1)) _
-    (accepted ConformerName _ _ _ _ (s3 .before .prepare-identifier-uppercase .ensures) (s3 .word-of3 .ensures) (s4 .before .before .before .conformer-word .given .1)) _
-    (accepted AlternativeLocation _ _ _ _ (s4 .before .prepare-optional-location .ensures) (s4 .word-of4 .ensures) (s5 .before .before .before .location-word .given .1))
-    (declined AtomName _ _ _ _ (s5 .before .prepare-atom-name .ensures) (s5 .word-of5 .ensures) (c .before .enum-told5 .given .1) (c .bad-name5 .ensures))
+returns-5 c = search (needs, bad-atom-name)
 
 returns-6 : tie.Need-returns-6
-returns-6 c =
-    let s5 = c .before .before .before in
-    let s4 = s5 .before .before .before .before .before in
-    let s3 = s4 .before .before .before .before .before in
-    let s2 = s3 .before .before .before .before .before in
-    let s1 = s2 .before .before .before .before .before in
-    all-ready _ _
-    (accepted ChainId _ _ _ _ (s1 .before .prepare-chain-id .ensures) (s1 .word-of .ensures) (s2 .before .before .before .chain-word .given .1)) _
-    (accepted InsertionCode _ _ _ _ (s2 .before .prepare-optional-code .ensures) (s2 .word-of2 .ensures) (s3 .before .before .before .code-word .given .1)) _
-    (accepted ConformerName _ _ _ _ (s3 .before .prepare-identifier-uppercase .ensures) (s3 .word-of3 .ensures) (s4 .before .before .before .conformer-word .given .1)) _
-    (accepted AlternativeLocation _ _ _ _ (s4 .before .prepare-optional-location .ensures) (s4 .word-of4 .ensures) (s5 .before .before .before .location-word .given .1)) _
-    (accepted AtomName _ _ _ _ (s5 .before .prepare-atom-name .ensures) (s5 .word-of5 .ensures) (c .before .name-word .given .1))
+returns-6 c = search (needs, all-ready)
 
 pub ready-spec : {M : Type 1} → statement M
 ready-spec =
