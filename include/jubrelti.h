@@ -30,7 +30,7 @@
 
 /* The version of this header, as one number too: major * 1,000,000 + minor * 1,000 + patch. */
 #define JUBRELTI_VERSION_MAJOR 0
-#define JUBRELTI_VERSION_MINOR 4
+#define JUBRELTI_VERSION_MINOR 5
 #define JUBRELTI_VERSION_PATCH 0
 #define JUBRELTI_VERSION (JUBRELTI_VERSION_MAJOR * 1000000 + JUBRELTI_VERSION_MINOR * 1000 + JUBRELTI_VERSION_PATCH)
 
@@ -189,7 +189,8 @@ JubreltiWrite jubrelti_write_pdb(const uint64_t *JUBRELTI_RESTRICT store, size_t
 /* Adds a model after the others. */
 JubreltiEdit jubrelti_add_model(uint64_t *store, size_t length, uint64_t serial);
 
-/* Adds an atom to the first chain, the last residue in it and the first conformer in that with these ids; what is missing is made. */
+/* Adds an atom to the first chain, the last residue in it and the first conformer in that with these ids; what is missing is made. Names
+   are trimmed, and all but the chain id raised to capitals, before they are looked for; a bad or blank location is an absent one. */
 JubreltiEdit jubrelti_add_atom(uint64_t *JUBRELTI_RESTRICT store, size_t length, uint64_t model,
                                const uint8_t *JUBRELTI_RESTRICT chain, size_t chain_length, uint64_t residue_serial,
                                uint64_t code_flag, const uint8_t *JUBRELTI_RESTRICT code, size_t code_length,

@@ -11,6 +11,17 @@ fn optional(o: &Optional) -> Option<&str> {
     (o.flag == 1).then(|| text(&o.text))
 }
 
+// An addition's code and location, prepared by the crate's own constructors. A location that can't be prepared is not given.
+fn prepared_code(o: &Optional) -> Option<String> {
+    let residue = Residue::new(0, optional(o), None).unwrap();
+    residue.insertion_code().map(String::from)
+}
+
+fn prepared_location(o: &Optional) -> Option<String> {
+    let conformer = Conformer::new("ALA", optional(o), None).unwrap();
+    conformer.alternative_location().map(String::from)
+}
+
 fn element(number: u64) -> Element {
     Element::new(number as usize).unwrap()
 }
@@ -71,8 +82,8 @@ pub fn edit(p: &mut PDB, call: &Call) -> bool {
         Call::AddAtom { model: i, chain, residue, code, conformer, location, name, values } => model(p, *i).add_atom(
             atom(name, values).unwrap(),
             text(chain),
-            (*residue as isize, optional(code)),
-            (text(conformer), optional(location)),
+            (*residue as isize, prepared_code(code).as_deref()),
+            (text(conformer), prepared_location(location).as_deref()),
         ),
         Call::RemoveChain(at) => drop(model(p, at[0]).remove_chain(at[1] as usize)),
         Call::RemoveResidue(at) => chain(p, at).remove_residue(at[2] as usize),

@@ -222,11 +222,11 @@ fn add_atom(
     let chains = &m[model as usize].chains;
     let c = chains.iter().position(|c| c.id == id);
     let r = c.and_then(|c| {
-        chains[c].residues.iter().rposition(|r| r.serial == residue && matches_optional(code_given, r.code))
+        chains[c].residues.iter().rposition(|r| r.serial == residue && r.code == code_word)
     });
     let f = c.zip(r).and_then(|(c, r)| {
         let conformers = &chains[c].residues[r].conformers;
-        conformers.iter().position(|f| f.name == conformer_name && matches_optional(location_given, f.location))
+        conformers.iter().position(|f| f.name == conformer_name && f.location == location_word)
     });
     let new = 1 + c.is_none() as usize + r.is_none() as usize + f.is_none() as usize;
     room(m, new, length)?;

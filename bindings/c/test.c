@@ -195,6 +195,21 @@ static void no_texts(void) {
     expect("residue 7 has no code", jubrelti_remove_residue_by_id(store, LENGTH, 0, 0, 7, 0, NULL, 0).found, 1);
 }
 
+/* Worked case 10. */
+static void prepared_codes(void) {
+    const char *codes[] = {"a", "a", "A"};
+    expect("open", jubrelti_open(longer, LONGER), JUBRELTI_DONE);
+    expect("add model 1", jubrelti_add_model(longer, LONGER, 1).result, JUBRELTI_DONE);
+    for (size_t i = 0; i < 3; i++) {
+        JubreltiEdit edited = jubrelti_add_atom(longer, LONGER, 0, bytes("A"), 1, 7, 1, bytes(codes[i]), 1, bytes("ALA"), 3, 0, NULL, 0,
+                                                bytes("N"), 1, no_values());
+        expect("a code in any case", edited.result, JUBRELTI_DONE);
+    }
+    expect("is that of one residue", jubrelti_records(longer, LONGER), 7);
+    expect("a removal takes it as given", jubrelti_remove_residue_by_id(longer, LONGER, 0, 0, 7, 1, bytes("a"), 1).found, 0);
+    expect("in capitals it finds all three", jubrelti_remove_residue_by_id(longer, LONGER, 0, 0, 7, 1, bytes("A"), 1).removed, 3);
+}
+
 /* NULL as a tree, an output and a list. */
 static void no_words(void) {
     const uint64_t all[] = {JUBRELTI_NODE_KNOWN_TRUE};
@@ -380,6 +395,7 @@ int main(void) {
     edit();
     no_store();
     no_texts();
+    prepared_codes();
     no_words();
     texts();
     numbers();

@@ -74,7 +74,8 @@ class Editing(ABC, Generic[Answer]):
         self, model: int, atom: NewAtom, chain_id: str, residue_id: ResidueIdentifier, conformer_id: ConformerIdentifier
     ) -> Answer:
         """Adds an atom to the first chain, the last residue in it and the first conformer in that with these ids; what is missing is
-        made. Insertion code and alternative location are looked for as given, and stored in capitals.
+        made. Insertion code and alternative location are trimmed and raised to capitals, then looked for; a bad or blank location is an
+        absent one.
 
         The ids are `(serial number, insertion code or None)` and `(name, alternative location or None)`.
         """
@@ -172,7 +173,7 @@ class Edits(Editing["Edits"]):
     def __init__(self) -> None:
         self._words = array("Q")
         self._calls = 0
-        # How many records the list may add, by what it says itself, and the place of its last addition.
+        # The most records that the list can add, and the place of its last edit if that is an addition.
         self._records = 0
         self._place: Optional[Tuple[Any, ...]] = None
 
@@ -185,10 +186,12 @@ class Edits(Editing["Edits"]):
         self._words.extend((code, len(behind)))
         self._words.fromlist(behind)
         self._calls += 1
+        if code == 2:
+            self._count_atom(numbers, parts)
+            return self
+        self._place = None
         if code == 1:
             self._records += 1
-        elif code == 2:
-            self._count_atom(numbers, parts)
         return self
 
     def _count_atom(self, numbers: Sequence[int], parts: Sequence[bytes]) -> None:

@@ -289,15 +289,10 @@ class Store(Editing[Edited]):
             self._edition = object()
 
     def _made(self, edits: Edits) -> Tuple["array[int]", Applied]:
-        """The words of a copy on which the list was made. Where one of the edits has no room, all are made again on a longer copy,
-        since a later edit may have gone by what that one did not add.
-        """
+        """The words of a copy with room for the list's additions, on which the list was made."""
         if not isinstance(edits, Edits):
             raise TypeError(f"a list of edits is an Edits, not {edits!r}")
         needed = self._used() + edits._records
         words = _copied(self._words, len(self._words) if needed <= self.capacity else _longer(self._words, needed))
         answers = _applied(words, edits)
-        while NUMBERS["NoCapacity"] in answers[::3] and _room(words) < MAX_RECORDS:
-            words = _copied(self._words, _longer(words))
-            answers = _applied(words, edits)
         return words, Applied(tuple(map(_answer, answers[::3], answers[1::3], answers[2::3])))

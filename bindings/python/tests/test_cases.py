@@ -45,10 +45,10 @@ class Cases(unittest.TestCase):
             # The shorter one refuses with 8 and has grown.
             self.assertEqual(len(store.words), 61 if words == 61 else 8 * 12 + 1)
 
-    def test_10_codes_as_given(self):
+    def test_10_prepared_codes(self):
         store = Store()
         store.add_model(1)
         for serial, code in enumerate(("a", "a", "A")):
             store.add_atom(0, NewAtom(serial, "N"), "A", (1, code), ("ALA", None))
-        self.assertEqual([residue.id for residue in store.residues], [(1, "A"), (1, "A")])
-        self.assertEqual([[atom.serial_number for atom in residue.atoms] for residue in store.residues], [[0], [1, 2]])
+        self.assertEqual([residue.id for residue in store.residues], [(1, "A")])
+        self.assertEqual([atom.serial_number for atom in store.atoms], [0, 1, 2])

@@ -43,15 +43,22 @@ class Growth(unittest.TestCase):
         roomy.apply_all(gathered())
         self.assertEqual((roomy.capacity, roomy), (5_000, store))
 
-    def test_room_that_a_list_does_not_tell(self):
-        """Each blank location makes a conformer of its own, which the list's ids don't show, so the list is made again."""
+    def test_no_more_than_a_list_counts_on(self):
+        """Ids in many forms, a refused atom that was to make its parents, and an edit between that takes them away."""
         edits = Edits().add_model(1)
-        for serial in range(50):
-            edits.add_atom(0, NewAtom(serial, "CA"), "A", (1, None), ("GLY", " "))
-        for made in (Store.apply_all, lambda store, edits: store.apply(edits).all()):
-            store = Store()
-            self.assertEqual(len(made(store, edits)), 51)
-            self.assertEqual(store.counts, Counts(1, 1, 1, 50, 50))
+        for code in ("a", "A", " a", "b"):
+            edits.add_atom(0, NewAtom(0, "CA", float("nan")), "A", (1, code), ("GLY", " "))
+            for serial in range(3):
+                edits.add_atom(0, NewAtom(serial, "CA"), "A", (1, code), ("GLY", None))
+                edits.add_atom(0, NewAtom(serial, "CA"), " A", (1, code), ("gly", "\t"))
+        store = Store()
+        self.assertEqual({error.number for _, error in store.apply(edits).refused}, {7})
+        self.assertEqual(store.counts, Counts(1, 1, 2, 2, 24))
+        self.assertEqual(store.capacity, edits._records)
+        again = Edits().add_model(1)
+        for serial in range(2):
+            again.add_atom(0, NewAtom(serial, "CA"), "A", (1, None), ("GLY", None)).remove_chain((0, 0))
+        self.assertEqual(again._records, 9)
 
     def test_a_refusal_does_not_grow(self):
         store = Store(1)

@@ -1,5 +1,5 @@
 // Lists of edits made in one call.
-use crate::store::{doubled, records, room};
+use crate::store::{records, room};
 use crate::{ffi, Edited, Edits, Error, Store, Words, MAX_RECORDS};
 
 /// The answers of a list's edits, in their order.
@@ -47,10 +47,6 @@ impl Applied {
     pub fn answers(&self) -> &[Result<Edited, Error>] {
         &self.answers
     }
-
-    fn found_no_room(&self) -> bool {
-        self.answers.contains(&Err(Error::NoCapacity))
-    }
 }
 
 impl IntoIterator for Applied {
@@ -97,8 +93,7 @@ impl<W: Words> Store<W> {
     /// Makes the edits in their order and gives the answer of each; a refused one changes nothing, and the next follows. Where all of
     /// them are to be made or none, [Store::apply_all] is the call.
     ///
-    /// A store that can grow makes room for the list's additions first. Where one of them finds no room nevertheless, all edits are made
-    /// on a longer copy of the store as it was before.
+    /// A store that can grow makes room for the list's additions first.
     pub fn apply(&mut self, edits: &Edits) -> Result<Applied, Error> {
         if !W::GROWS {
             return apply_once(self.words_mut(), edits);
@@ -109,19 +104,11 @@ impl<W: Words> Store<W> {
     }
 
     // A copy that has room for the list, with the edits made, and their answers.
-    //
-    // The list's count of records can be too low: a code in small letters is stored in capitals, so the next atom with it doesn't find its
-    // residue and makes another. A later edit may have gone by what one without room did not add, so all of them are made again.
     fn apply_to_copy(&self, edits: &Edits) -> Result<(W, Applied), Error> {
-        let mut needed = (records(self.words()) + edits.records()).clamp(room(self.words()), MAX_RECORDS);
-        loop {
-            let mut words = W::with_room(self.words(), needed)?;
-            let applied = apply_once(words.as_mut(), edits)?;
-            match doubled(needed).filter(|_| applied.found_no_room()) {
-                Some(more) => needed = more,
-                None => return Ok((words, applied)),
-            }
-        }
+        let needed = (records(self.words()) + edits.records()).clamp(room(self.words()), MAX_RECORDS);
+        let mut words = W::with_room(self.words(), needed)?;
+        let applied = apply_once(words.as_mut(), edits)?;
+        Ok((words, applied))
     }
 }
 

@@ -41,7 +41,8 @@ impl<W: Words> Store<W> {
     }
 
     /// Adds an atom to the first chain, the last residue in it and the first conformer in that with these ids; what is missing is
-    /// made. Insertion code and alternative location are looked for as given, and stored in capitals.
+    /// made. Insertion code and alternative location are trimmed and raised to capitals, then looked for; a bad or
+    /// blank location is an absent one.
     ///
     /// Each addition by this call checks the whole store, so that 50,000 atoms one by one take some 33 s. A
     /// [ModelBuilder](crate::ModelBuilder) or a list ([Edits](crate::Edits)) checks it once, and is fastest where the additions go chain

@@ -28,7 +28,7 @@ const ADD_ATOM: u64 = 2;
 pub struct Edits {
     words: Vec<u64>,
     calls: usize,
-    // How many records the additions make, if each finds the parents that the one before it had.
+    // The most records that the additions can make: each counts, whether or not it is refused.
     records: usize,
     // Where the last edit stands in the words, if it is an addition of an atom.
     addition: Option<usize>,
@@ -109,9 +109,9 @@ impl Edits {
         self
     }
 
-    // How many of its chain, residue and conformer an addition makes: those from the outermost on whose ids the addition before it doesn't
-    // have, and all three where another edit stands before it. The flags of optional texts tell nothing more, since a present one that is
-    // empty is refused.
+    // How many of its chain, residue and conformer an addition makes at most: those from the outermost on whose ids the addition before it
+    // doesn't have, and all three where another edit stands before it. The flags of optional texts tell nothing more: a present code that is
+    // empty is refused, and a present location that is empty is an absent one.
     fn new_parents(&self, new: &ffi::Addition) -> usize {
         let Some(at) = self.addition else { return 3 };
         let call = &self.words[at..];

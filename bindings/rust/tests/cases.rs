@@ -119,7 +119,7 @@ fn case_9_words_for_one_atom() {
 }
 
 #[test]
-fn case_10_codes_as_given() {
+fn case_10_prepared_codes() {
     let mut store = Store::with_records(10).unwrap();
     store.add_model(1).unwrap();
     for (serial_number, code) in [(1, "a"), (2, "a"), (3, "A")] {
@@ -128,5 +128,5 @@ fn case_10_codes_as_given() {
     }
     let hits: Vec<Hit> = store.find(Search::Known(true)).unwrap().collect();
     let places: Vec<_> = hits.iter().map(|h| (h.atom().serial_number(), h.residue().id(), h.records()[2])).collect();
-    assert_eq!(places, [(1, (7, Some("A")), 2), (2, (7, Some("A")), 5), (3, (7, Some("A")), 5)]);
+    assert_eq!(places, [1, 2, 3].map(|serial| (serial, (7, Some("A")), 2)));
 }

@@ -100,7 +100,6 @@ fn all_or_none_in_a_store_that_grows() {
         let before = store.words().to_vec();
         let mut edits = Edits::new();
         edits.add_model(1);
-        // Codes in small letters make a residue each, so the room made first is too small.
         for serial in 0..50 {
             edits.add_atom(0, atom(serial), "A", (1, Some("a")), ("GLY", None));
         }

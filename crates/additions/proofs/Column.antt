@@ -10,17 +10,19 @@ use native.Mathlib.Omega.{arith}
 use lib.ListN.{length, take, drop, length-append, length-drop, take-append-drop}
 use lib.Seq.{take-at, drop-at, length-take-le}
 use lib.Dec.{eqb}
-use Rattle.machine.specs.Lists.{concatMap}
+use Rattle.machine.specs.Lists.{concatMap, andThen}
 use Rattle.machine.specs.Record.{Fields, Words, words, kind}
 use Rattle.machine.specs.Store.{Branch, Machine, flat, chunks}
-use Rattle.machine.specs.Edit.{Addition, Prepare, Which, first, last, pick, upsert, newAtom, intoChains, replaceAt}
+use Rattle.machine.specs.Edit.{Which, first, last, pick, upsert, newAtom, intoChains, replaceAt}
+use Rattle.machine.specs.declared.PreparedAddition.{PreparedAddition}
 use Rattle.laws.specs.Lists.{All-map, concatMap-append}
 use Rattle.laws.specs.Grouped.{flats-kinds, chunks-length}
 use Rattle.laws.specs.Scan.{ends-branches}
 use Rattle.laws.specs.Places.{Around, Spot}
-use Rattle.seek.specs.Seek.{recordsIn, descendants}
+use Rattle.seek.specs.Seek.{recordsIn, descendants, toEnd}
 use Rattle.seek.proofs.Below.{chunks-take, descendants-over}
-use Rattle.insertion.specs.Pick.{Key, marks, pickSpan, keysOf, spotIn}
+use Rattle.insertion.specs.Pick.{whichBy, marks, chainKey, residueKey, conformerKey, keysOf, spotIn}
+use Rattle.insertion.specs.declared.Key.{Key}
 use Rattle.insertion.specs.Cursor.{column}
 use Rattle.insertion.proofs.Picks.{chosen, pick-over, unmarked}
 
@@ -120,9 +122,8 @@ module _ (h k : ℕ) (level : h + k ≡ 4) (w : List ℕ) (from end i : ℕ) (ts
       let whole : chunks end w ≡ ((x ++ lead) ++ kids) ++ rest = sym (take-append-drop from (chunks end w)) ∙ ap (λ (l : List Words). x ++ l) parts ∙ simp append-assoc in
       rw (chunks-take stop end w (omega (arith, total, lead-length)), whole, take-at ((x ++ lead) ++ kids) rest stop g) (drop-at (x ++ lead) kids (start + 1) f)
 
-  pick-there : (key : Key) → pick (key .which) (marks h key) (recordsIn from end w) ≡ some (length (concatMap (flat (suc k)) (a .before)))
-      → pickSpan h key from (recordsIn from end w) ≡ some (start, stop)
-  pick-there key e = rw (e, after-start, kids-descendants)
+  pick-there : (o : Option ℕ) → o ≡ some (length (concatMap (flat (suc k)) (a .before))) → andThen o (λ i. toEnd h (from + i) (drop (suc i) (recordsIn from end w))) ≡ some (start, stop)
+  pick-there o e = rw (e, after-start, kids-descendants)
 
 -- ---- one column at one place
 
@@ -135,10 +136,10 @@ pub record Ins (k : ℕ) (ts us : List (Branch k)) (n at : ℕ) (new : List Word
   pub number : at ≡ n + length pre
 
 -- f puts records in where the keys lead: those of the column that do not stand already
-pub record Puts (h k : ℕ) (f : List (Branch k) → List (Branch k)) (keys : List Key) (col : List Words) : Type 0 where
+pub record Puts (k : ℕ) (f : List (Branch k) → List (Branch k)) (keys : List Key) (col : List Words) : Type 0 where
   pub alone : concatMap (flat k) (f []) ≡ col
   pub among : (w : List ℕ) (from end : ℕ) (ts : List (Branch k)) → from ≤ end → recordsIn from end w ≡ concatMap (flat k) ts
-      → Ins k ts (f ts) from (spotIn h keys from end w .0) (drop (spotIn h keys from end w .1) col)
+      → Ins k ts (f ts) from (spotIn keys from end w .0) (drop (spotIn keys from end w .1) col)
 
 -- appended, after all of them
 ins-end : (k : ℕ) (w : List ℕ) (from end : ℕ) (ts : List (Branch k)) (t : Branch k) → from ≤ end → recordsIn from end w ≡ concatMap (flat k) ts → Ins k ts (ts ++ (t ∷ [])) from end (flat k t)
@@ -165,38 +166,38 @@ ins-below k i ts us t cs n at new a e s =
       number = omega (arith, s .number, length-append lead (words (suc k) (t .0) ∷ s .pre));
     }
 
-puts-atom : (h : ℕ) (a : Branch 0) → Puts h 0 (λ ts. ts ++ (a ∷ [])) [] (words 0 a ∷ [])
+puts-atom : (a : Branch 0) → Puts 0 (λ ts. ts ++ (a ∷ [])) [] (words 0 a ∷ [])
 unfolding flat spotIn
-puts-atom h a = record { alone = refl; among = λ w from end ts order e. ins-end 0 w from end ts a order e }
+puts-atom a = record { alone = refl; among = λ w from end ts order e. ins-end 0 w from end ts a order e }
 
 -- one level more
-module _ (h k : ℕ) (level : h + k ≡ 4) (low : 1 ≤ h) (key : Key) (p : Fields (suc k) → Bool) (new : Fields (suc k))
-    (f : List (Branch k) → List (Branch k)) (keys : List Key) (col : List Words) (finds : (d : Fields (suc k)) → marks h key (words (suc k) d) ≡ p d)
-    (puts : Puts (suc h) k f keys col) where
+module _ (key : Key) (k : ℕ) (level : key .kind + k ≡ 4) (low : 1 ≤ key .kind) (p : Fields (suc k) → Bool) (new : Fields (suc k))
+    (f : List (Branch k) → List (Branch k)) (keys : List Key) (col : List Words) (finds : (d : Fields (suc k)) → marks key (words (suc k) d) ≡ p d)
+    (puts : Puts k f keys col) where
   abbrev into : List (Branch (suc k)) → List (Branch (suc k))
-  into ts = upsert k (key .which) p new f ts
+  into ts = upsert k (whichBy (key .«from_back»)) p new f ts
 
   level-among : (w : List ℕ) (from end : ℕ) (ts : List (Branch (suc k))) → from ≤ end → recordsIn from end w ≡ concatMap (flat (suc k)) ts
-      → (o : Option ℕ) → pick (key .which) (λ t. p (t .0)) ts ≡ o → Same h k level (marks h key) (unmarked h key) p finds (key .which) ts o
-      → Ins (suc k) ts (into ts) from (spotIn h (key ∷ keys) from end w .0) (drop (spotIn h (key ∷ keys) from end w .1) (words (suc k) new ∷ col))
+      → (o : Option ℕ) → pick (whichBy (key .«from_back»)) (λ t. p (t .0)) ts ≡ o → Same (key .kind) k level (marks key) (unmarked key) p finds (whichBy (key .«from_back»)) ts o
+      → Ins (suc k) ts (into ts) from (spotIn (key ∷ keys) from end w .0) (drop (spotIn (key ∷ keys) from end w .1) (words (suc k) new ∷ col))
   unfolding upsert spotIn flat
   level-among w from end ts order e none q s =
-      let r : pick (key .which) (marks h key) (recordsIn from end w) ≡ none = rw e s in
+      let r : pick (whichBy (key .«from_back»)) (marks key) (recordsIn from end w) ≡ none = rw e s in
       rw (q, r, ← puts .alone) (ins-end (suc k) w from end ts (new, f []) order e)
   level-among w from end ts order e (some i) q s =
       let t = s .0 in
       let a = s .1 in
-      let r : pick (key .which) (marks h key) (recordsIn from end w) ≡ some (length (concatMap (flat (suc k)) (a .before))) = rw e (s .2) in
-      let span = pick-there h k level w from end i ts t a low order e key r in
-      let kids = kids-below h k level w from end i ts t a low order e in
+      let r : pick (whichBy (key .«from_back»)) (marks key) (recordsIn from end w) ≡ some (length (concatMap (flat (suc k)) (a .before))) = rw e (s .2) in
+      let span = pick-there (key .kind) k level w from end i ts t a low order e _ r in
+      let kids = kids-below (key .kind) k level w from end i ts t a low order e in
       rw (q, span) (ins-below k i ts _ t (f (t .1)) from _ _ a (a .is (λ u. (u .0, f (u .1)) ∷ [])) (puts .among w _ _ (t .1) (omega arith) kids))
 
-  puts-level : Puts h (suc k) into (key ∷ keys) (words (suc k) new ∷ col)
+  puts-level : Puts (suc k) into (key ∷ keys) (words (suc k) new ∷ col)
   unfolding upsert flat
   puts-level =
       record {
-        alone = go (key .which);
-        among = λ w from end ts order e. level-among w from end ts order e _ refl (picked h k level (marks h key) (unmarked h key) p finds (key .which) ts);
+        alone = go (whichBy (key .«from_back»));
+        among = λ w from end ts order e. level-among w from end ts order e _ refl (picked (key .kind) k level (marks key) (unmarked key) p finds (whichBy (key .«from_back»)) ts);
       }
     where
       go : (v : Which) → concatMap (flat (suc k)) (upsert k v p new f []) ≡ words (suc k) new ∷ col
@@ -206,12 +207,12 @@ module _ (h k : ℕ) (level : h + k ≡ 4) (low : 1 ≤ h) (key : Key) (p : Fiel
 -- ---- an atom in a model
 
 -- the three levels below a model
-pub puts-chains : (a : Addition) (p : Prepare) → Puts 2 3 (intoChains a p) (keysOf (p .chain) (a .residue) (a .code) (p .conformer) (a .location)) (column p (a .residue) (newAtom a p))
+pub puts-chains : (a : PreparedAddition) → Puts 3 (intoChains a) (keysOf a) (column a)
 unfolding words
-puts-chains a p =
-    puts-level 2 2 refl (omega arith) _ _ _ _ _ _ (λ d. and-true (eqb (d .id) (p .chain)))
-    (puts-level 3 1 refl (omega arith) _ _ _ _ _ _ (λ d. refl)
-    (puts-level 4 0 refl (omega arith) _ _ _ _ _ _ (λ d. refl) (puts-atom 5 (newAtom a p))))
+puts-chains a =
+    puts-level (chainKey (a .chain)) 2 refl (omega arith) _ _ _ _ _ (λ d. and-true (eqb (d .id) (a .chain)))
+    (puts-level (residueKey (a .residue) (a .code)) 1 refl (omega arith) _ _ _ _ _ (λ d. refl)
+    (puts-level (conformerKey (a .conformer) (a .location)) 0 refl (omega arith) _ _ _ _ _ (λ d. refl) (puts-atom (newAtom a))))
 
 -- in a machine whose model at a position has its children changed
 pub ins-machine : (i : ℕ) (m : Machine) (t : Branch 4) (cs : List (Branch 3)) (n at : ℕ) (new : List Words) (s : Spot 0 4 (i ∷ []) m t) → n ≡ length (s .pre) + 1

@@ -14,9 +14,10 @@ use Rattle.machine.specs.Answer.{Result, ok, refused, badName, editedNumbers}
 use Rattle.machine.specs.Text.{Optional, chainId, insertionCode, conformerName, alternativeLocation, atomName, optional}
 use Rattle.machine.specs.Record.{Words, words, finite, goodValues}
 use Rattle.machine.specs.Store.{Branch, Machine, flat, records, stored, capacity, laid, layOut, recordsOf}
-use Rattle.machine.specs.Edit.{Addition, addition, namedAtom, accept, prepare, intoChains, replaceAt, fits, addModel, addAtom, Change, stepBy}
+use Rattle.machine.specs.Edit.{Addition, addition, namedAtom, newAtom, accept, prepare, intoChains, replaceAt, fits, addModel, addPrepared, Change, stepBy}
 use Rattle.machine.specs.declared.NewAtom.{NewAtom}
 use Rattle.machine.specs.declared.Prepared.{Prepared}
+use Rattle.machine.specs.declared.PreparedAddition.{PreparedAddition}
 use Rattle.machine.specs.declared.Prepared.the-variants.{Stored, Absent, Bad}
 use Rattle.machine.specs.declared.Name.{Name}
 use Rattle.machine.specs.declared.Name.the-variants.{ChainId, InsertionCode, ConformerName, AlternativeLocation, AtomName}
@@ -38,10 +39,9 @@ use Rattle.insertion.specs.Pick.{keysOf, spotIn, foundOf}
 use Rattle.insertion.specs.declared.Cursor as Cursor
 use Rattle.insertion.specs.declared.Spot as Spot
 use Rattle.insertion.proofs.Spans.{model-inside, model-span}
-use Rattle.additions.specs.Add.{columnWords, preparedOf, resultOf, named, wordOf, put, intoModel}
-use Rattle.additions.specs.declared.StoredNames as StoredNames
+use Rattle.additions.specs.Add.{columnWords, resultOf, wordOf, put}
 use Rattle.additions.specs.declared.Word as Word
-use Rattle.additions.specs.declared.Readied as Readied
+use Rattle.additions.specs.declared.Preparation as Preparation
 use Rattle.additions.proofs.Column.{Ins, puts-chains, ins-machine, ins-model}
 
 -- ---- new records in a store
@@ -130,7 +130,7 @@ module _ (w : List ℕ) (g : Good w) (m : Machine) (at : ℕ) (new : List Words)
         number = omega arith;
       }
 
--- ---- word_of and ready
+-- ---- word_of and prepare
 
 pub word-is : (p : Prepared) (w : ℕ) → p ≡ Stored w → Word.the-variants.Is w ≡ wordOf p
 word-is p w e = rw e
@@ -159,44 +159,48 @@ declined n {p} {q} {r} {x} d e f b = go q (ap wordOf (sym d) ∙ sym e ∙ f)
     go Bad h = rw b
 
 -- the first name that is bad, and all five: p is a name prepared, r its word
-module _ (a : Addition) (p₁ : Prepared) (r₁ : Word.Word) (d₁ : p₁ ≡ chainId (a .chain)) (f₁ : r₁ ≡ wordOf p₁) where
-  pub bad-chain : (x : Refusal) → r₁ ≡ Word.the-variants.Bad → x ≡ badName ChainId → refused x ≡ prepare a
+module _ (chain : List ℕ) (residue : ℕ) (code : Optional) (conformer : List ℕ) (location : Optional) (name : List ℕ) (v : NewAtom)
+    (p₁ : Prepared) (r₁ : Word.Word) (d₁ : p₁ ≡ chainId chain) (f₁ : r₁ ≡ wordOf p₁) where
+  abbrev asked : Addition
+  asked = addition chain residue code conformer location name v
+
+  pub bad-chain : (x : Refusal) → r₁ ≡ Word.the-variants.Bad → x ≡ badName ChainId → refused x ≡ prepare asked
   unfolding prepare
   bad-chain x b e = rw (declined ChainId d₁ f₁ b e)
 
-  module _ (w₁ : ℕ) (e₁ : r₁ ≡ Word.the-variants.Is w₁) (p₂ : Prepared) (r₂ : Word.Word) (d₂ : p₂ ≡ optional insertionCode (a .code)) (f₂ : r₂ ≡ wordOf p₂) where
-    c₁ : accept ChainId (chainId (a .chain)) ≡ ok w₁
+  module _ (w₁ : ℕ) (e₁ : r₁ ≡ Word.the-variants.Is w₁) (p₂ : Prepared) (r₂ : Word.Word) (d₂ : p₂ ≡ optional insertionCode code) (f₂ : r₂ ≡ wordOf p₂) where
+    c₁ : accept ChainId (chainId chain) ≡ ok w₁
     c₁ = accepted ChainId d₁ f₁ e₁
 
-    pub bad-code : (x : Refusal) → r₂ ≡ Word.the-variants.Bad → x ≡ badName InsertionCode → refused x ≡ prepare a
+    pub bad-code : (x : Refusal) → r₂ ≡ Word.the-variants.Bad → x ≡ badName InsertionCode → refused x ≡ prepare asked
     unfolding prepare
     bad-code x b e = rw (c₁, declined InsertionCode d₂ f₂ b e)
 
-    module _ (w₂ : ℕ) (e₂ : r₂ ≡ Word.the-variants.Is w₂) (p₃ : Prepared) (r₃ : Word.Word) (d₃ : p₃ ≡ conformerName (a .conformer)) (f₃ : r₃ ≡ wordOf p₃) where
-      c₂ : accept InsertionCode (optional insertionCode (a .code)) ≡ ok w₂
+    module _ (w₂ : ℕ) (e₂ : r₂ ≡ Word.the-variants.Is w₂) (p₃ : Prepared) (r₃ : Word.Word) (d₃ : p₃ ≡ conformerName conformer) (f₃ : r₃ ≡ wordOf p₃) where
+      c₂ : accept InsertionCode (optional insertionCode code) ≡ ok w₂
       c₂ = accepted InsertionCode d₂ f₂ e₂
 
-      pub bad-conformer : (x : Refusal) → r₃ ≡ Word.the-variants.Bad → x ≡ badName ConformerName → refused x ≡ prepare a
+      pub bad-conformer : (x : Refusal) → r₃ ≡ Word.the-variants.Bad → x ≡ badName ConformerName → refused x ≡ prepare asked
       unfolding prepare
       bad-conformer x b e = rw (c₁, c₂, declined ConformerName d₃ f₃ b e)
 
-      module _ (w₃ : ℕ) (e₃ : r₃ ≡ Word.the-variants.Is w₃) (p₄ : Prepared) (r₄ : Word.Word) (d₄ : p₄ ≡ optional alternativeLocation (a .location)) (f₄ : r₄ ≡ wordOf p₄) where
-        c₃ : accept ConformerName (conformerName (a .conformer)) ≡ ok w₃
+      module _ (w₃ : ℕ) (e₃ : r₃ ≡ Word.the-variants.Is w₃) (p₄ : Prepared) (r₄ : Word.Word) (d₄ : p₄ ≡ optional alternativeLocation location) (f₄ : r₄ ≡ wordOf p₄) where
+        c₃ : accept ConformerName (conformerName conformer) ≡ ok w₃
         c₃ = accepted ConformerName d₃ f₃ e₃
 
-        pub bad-location : (x : Refusal) → r₄ ≡ Word.the-variants.Bad → x ≡ badName AlternativeLocation → refused x ≡ prepare a
+        pub bad-location : (x : Refusal) → r₄ ≡ Word.the-variants.Bad → x ≡ badName AlternativeLocation → refused x ≡ prepare asked
         unfolding prepare
         bad-location x b e = rw (c₁, c₂, c₃, declined AlternativeLocation d₄ f₄ b e)
 
-        module _ (w₄ : ℕ) (e₄ : r₄ ≡ Word.the-variants.Is w₄) (p₅ : Prepared) (r₅ : Word.Word) (d₅ : p₅ ≡ atomName (a .name)) (f₅ : r₅ ≡ wordOf p₅) where
-          c₄ : accept AlternativeLocation (optional alternativeLocation (a .location)) ≡ ok w₄
+        module _ (w₄ : ℕ) (e₄ : r₄ ≡ Word.the-variants.Is w₄) (p₅ : Prepared) (r₅ : Word.Word) (d₅ : p₅ ≡ atomName name) (f₅ : r₅ ≡ wordOf p₅) where
+          c₄ : accept AlternativeLocation (optional alternativeLocation location) ≡ ok w₄
           c₄ = accepted AlternativeLocation d₄ f₄ e₄
 
-          pub bad-atom-name : (x : Refusal) → r₅ ≡ Word.the-variants.Bad → x ≡ badName AtomName → refused x ≡ prepare a
+          pub bad-atom-name : (x : Refusal) → r₅ ≡ Word.the-variants.Bad → x ≡ badName AtomName → refused x ≡ prepare asked
           unfolding prepare
           bad-atom-name x b e = rw (c₁, c₂, c₃, c₄, declined AtomName d₅ f₅ b e)
 
-          pub all-ready : (w₅ : ℕ) → r₅ ≡ Word.the-variants.Is w₅ → ok (record { chain = w₁; code = w₂; conformer = w₃; location = w₄; name = w₅ }) ≡ prepare a
+          pub all-ready : (w₅ : ℕ) → r₅ ≡ Word.the-variants.Is w₅ → ok (record { chain = w₁; residue = residue; code = w₂; conformer = w₃; location = w₄; name = w₅; values = v }) ≡ prepare asked
           unfolding prepare
           all-ready w₅ e₅ = rw (c₁, c₂, c₃, c₄, accepted AtomName d₅ f₅ e₅)
 
@@ -210,12 +214,12 @@ all-good true true true false e f g = refl
 all-good true true true true false f g = refl
 all-good true true true true true f g = refl
 
-pub values-good : (v : NewAtom) (a b c d e f : Bool)
+pub values-good : (v : NewAtom) (name : ℕ) (a b c d e f : Bool)
     → a ≡ finite (v .x) → b ≡ finite (v .y) → c ≡ finite (v .z) → d ≡ finite (v .occupancy) → e ≡ finite (v .«b_factor»)
     → f ≡ leb (v .element) 118
-    → (((a && b) && c) && (d && e)) && f && leb (v .hetero) 1 ≡ goodValues (namedAtom v 0)
+    → (((a && b) && c) && (d && e)) && f && leb (v .hetero) 1 ≡ goodValues (namedAtom v name)
 unfolding goodValues
-values-good v a b c d e f x y z o t l = all-good a b c d e f (leb (v .hetero) 1) ∙ rw (x, y, z, o, t, l)
+values-good v name a b c d e f x y z o t l = all-good a b c d e f (leb (v .hetero) 1) ∙ rw (x, y, z, o, t, l)
 
 -- ---- put_records
 
@@ -253,25 +257,15 @@ module _ (w : List ℕ) (g : Good w) (serial x count : ℕ) (e : x ≡ capacity 
 
 -- ---- add_atom
 
--- the new records, all four
-abbrev newColumn : StoredNames.StoredNames → ℕ → NewAtom → List Words
-newColumn n residue v = column (preparedOf n) residue (namedAtom v (n .name))
-
 -- the words of the column's records from one on
-column-part : (n : StoredNames.StoredNames) (residue : ℕ) (v : NewAtom) (x : ℕ) → x ≤ 4
-    → take (48 - 12 * x) (drop (12 * x) (columnWords n residue v)) ≡ concat (drop x (newColumn n residue v))
+column-part : (a : PreparedAddition) (x : ℕ) → x ≤ 4 → take (48 - 12 * x) (drop (12 * x) (columnWords a)) ≡ concat (drop x (column a))
 unfolding words
-column-part n residue v x l =
-    let col = newColumn n residue v in
+column-part a x l =
+    let col = column a in
     let t : Twelve col = (refl, (refl, (refl, (refl, tt)))) in
     let d : drop (12 * x) (concat col) ≡ concat (drop x col) = sym (ap (drop (12 * x)) (append-nil (concat col))) ∙ drop-records col [] t x l ∙ append-nil (concat (drop x col)) in
     let c : length (concat (drop x col)) ≡ 48 - 12 * x = omega (arith, concat-length (drop x col) (twelve-drop x col t), length-drop x col) in
     rw d (take-all (48 - 12 * x) (concat (drop x col)) (omega arith))
-
--- refusal 7 does not look at the name
-values-only : (v : NewAtom) (name : ℕ) → goodValues (namedAtom v name) ≡ goodValues (namedAtom v 0)
-unfolding goodValues
-values-only v name = refl
 
 -- in the model whose span is known
 module _ (w : List ℕ) (g : Good w) (i start stop : ℕ) (e : span (i ∷ []) (held w) ≡ some (start, stop)) where
@@ -298,88 +292,71 @@ module _ (w : List ℕ) (g : Good w) (i start stop : ℕ) (e : span (i ∷ []) (
       let y = stands-records w g 0 4 (i ∷ []) (held w) start stop refl stood in
       cc
 
-  module _ (residue : ℕ) (code location : Optional) (v : NewAtom) (n : StoredNames.StoredNames) where
-    abbrev atom : Addition
-    atom = addition [] residue code [] location [] v
-
+  module _ (new : PreparedAddition) (good : goodValues (newAtom new) ≡ true) where
     abbrev outcome : List ℕ × List ℕ
-    outcome = stepBy w (intoModel (length w) i atom (preparedOf n))
+    outcome = stepBy w (addPrepared (length w) i (ok new))
 
     abbrev after : Machine
-    after = replaceAt 0 4 (i ∷ []) ((there .0, intoChains atom (preparedOf n) (there .1)) ∷ []) (held w)
+    after = replaceAt 0 4 (i ∷ []) ((there .0, intoChains new (there .1)) ∷ []) (held w)
 
-    abbrev cursor : ℕ × ℕ
-    cursor = spotIn 2 (keysOf (n .chain) residue code (n .conformer) location) (start + 1) stop w
+    abbrev found : ℕ × ℕ
+    found = spotIn (keysOf new) (start + 1) stop w
 
-    put-atom : Ins 4 (held w) after 0 (cursor .0) (drop (cursor .1) (newColumn n residue v))
+    put-atom : Ins 4 (held w) after 0 (found .0) (drop (found .1) (column new))
     put-atom =
         let x = stood .first in
-        ins-machine i (held w) there _ (start + 1) _ _ (stood .spot) (omega arith) (puts-chains atom (preparedOf n) .among w (start + 1) stop (there .1) long chains)
+        ins-machine i (held w) there _ (start + 1) _ _ (stood .spot) (omega arith) (puts-chains new .among w (start + 1) stop (there .1) long chains)
 
-    module _ (s : Spot.Spot) (h : foundOf s ≡ cursor) (lands : Lands start stop (n .chain) w s) (count : ℕ) (c : count ≡ length (records (held w))) where
-      atom-fits : intoModel (length w) i atom (preparedOf n) (held w) ≡ fits (length w) after
-      unfolding intoModel
-      atom-fits = rw (stood .there)
+    module _ (s : Spot.Spot) (h : foundOf s ≡ found) (lands : Lands start stop (new .chain) w s) (count : ℕ) (c : count ≡ length (records (held w))) where
+      atom-fits : addPrepared (length w) i (ok new) (held w) ≡ fits (length w) after
+      unfolding addPrepared
+      atom-fits = rw (stood .there, good)
 
-      ins : Ins 4 (held w) after 0 (s .at) (drop (s .depth) (newColumn n residue v))
-      ins = subst (λ (p : ℕ × ℕ). Ins 4 (held w) after 0 (p .0) (drop (p .1) (newColumn n residue v))) (sym h) put-atom
+      ins : Ins 4 (held w) after 0 (s .at) (drop (s .depth) (column new))
+      ins = subst (λ (p : ℕ × ℕ). Ins 4 (held w) after 0 (p .0) (drop (p .1) (column new))) (sym h) put-atom
 
-      pub atom-at : s .at ≤ count
-      atom-at = omega (arith, put-low w g after _ _ ins)
-
-      new-length : count + 4 - s .depth ≡ length (records (held w)) + length (drop (s .depth) (newColumn n residue v))
-      new-length = omega (arith, lands .depth, length-drop (s .depth) (newColumn n residue v))
+      new-length : count + 4 - s .depth ≡ length (records (held w)) + length (drop (s .depth) (column new))
+      new-length = omega (arith, lands .depth, length-drop (s .depth) (column new))
 
       pub atom-full : (x : ℕ) → x ≡ capacity (length w) → x < count + 4 - s .depth → (editedNumbers (Edited.the-variants.Refused NoCapacity), w) ≡ outcome
       atom-full x d l = put-full w g after _ _ ins _ atom-fits x (count + 4 - s .depth) d new-length l
 
       module _ (x : ℕ) (d : x ≡ capacity (length w)) (l : count + 4 - s .depth ≤ x) where
-        pub atom-room : (col : List ℕ) → 12 * count + length (take (48 - 12 * s .depth) (drop (12 * s .depth) col)) < length w
-        atom-room col = omega (arith, lands .depth, length-take (48 - 12 * s .depth) (drop (12 * s .depth) col), good-length w g)
+        pub atom-room : (col : List ℕ) → (s .at ≤ count) × (12 * count + length (take (48 - 12 * s .depth) (drop (12 * s .depth) col)) < length w)
+        atom-room col =
+            (omega (arith, put-low w g after _ _ ins), omega (arith, lands .depth, length-take (48 - 12 * s .depth) (drop (12 * s .depth) col), good-length w g))
 
-        module _ (col s′ : List ℕ) (k : col ≡ columnWords n residue v) (y : s′ ≡ put (s .at) count (take (48 - 12 * s .depth) (drop (12 * s .depth) col)) w) where
-          new-words : s′ ≡ put (s .at) (length (records (held w))) (concat (drop (s .depth) (newColumn n residue v))) w
-          new-words = let part = column-part n residue v (s .depth) (omega (arith, lands .depth)) in y ∙ rw (k, part, c)
+        module _ (col s′ : List ℕ) (k : col ≡ columnWords new) (y : s′ ≡ put (s .at) count (take (48 - 12 * s .depth) (drop (12 * s .depth) col)) w) where
+          new-words : s′ ≡ put (s .at) (length (records (held w))) (concat (drop (s .depth) (column new))) w
+          new-words = let part = column-part new (s .depth) (omega (arith, lands .depth)) in y ∙ rw (k, part, c)
 
-          pub atom-done : (editedNumbers (Edited.the-variants.Done 1 0), s′) ≡ outcome
-          atom-done = put-done w g after _ _ ins _ atom-fits x (count + 4 - s .depth) s′ d new-length l new-words
-
-          pub atom-moved : (p q : Cursor.Cursor) → Valid p w → Advances p i start stop (n .chain) residue s q → Valid q s′
-          atom-moved p q known moves =
-              moves w s′ (preparedOf n) (namedAtom v (n .name)) refl g known (model-span w g i ∙ e) lands (put-grown w g after _ _ ins x (count + 4 - s .depth) s′ d new-length l new-words)
+          pub atom-done : (p q : Cursor.Cursor) → Valid p w → Advances p i start stop new s q → Valid q s′ × ((editedNumbers (Edited.the-variants.Done 1 0), s′) ≡ outcome)
+          atom-done p q known moves = (
+            moves w s′ g known (model-span w g i ∙ e) lands (put-grown w g after _ _ ins x (count + 4 - s .depth) s′ d new-length l new-words),
+            put-done w g after _ _ ins _ atom-fits x (count + 4 - s .depth) s′ d new-length l new-words,
+          )
 
 -- in the model at an index
-module _ (w : List ℕ) (g : Good w) (i : ℕ) (chain : List ℕ) (residue : ℕ) (code : Optional) (conformer : List ℕ) (location : Optional) (name : List ℕ) (v : NewAtom)
-    (r : Span.Span) (e : r ≡ spanOf (span (i ∷ []) (held w))) where
-  abbrev asked : Addition
-  asked = addition chain residue code conformer location name v
-
+module _ (w : List ℕ) (g : Good w) (i : ℕ) (o : Preparation.Preparation) (r : Span.Span) (e : r ≡ spanOf (span (i ∷ []) (held w))) where
   abbrev answer : List ℕ × List ℕ
-  answer = stepBy w (addAtom (length w) i asked)
+  answer = stepBy w (addPrepared (length w) i (resultOf o))
 
   pub atom-nowhere : r ≡ Span.the-variants.Missing → (editedNumbers (Edited.the-variants.Refused NoPosition), w) ≡ answer
-  unfolding stepBy addAtom
+  unfolding stepBy addPrepared
   atom-nowhere m = rw (g, missing 0 4 (i ∷ []) 0 (held w) (sym e ∙ m))
 
   module _ (start stop : ℕ) (m : r ≡ Span.the-variants.At start stop) where
     model-spans : span (i ∷ []) (held w) ≡ some (start, stop)
     model-spans = at-span (span (i ∷ []) (held w)) start stop (sym e ∙ m)
 
-    module _ (o : Readied.Readied) (q : resultOf o ≡ prepare (named chain code conformer location name)) where
-      -- the names go by no other argument
-      prepared : resultOf o ≡ prepare asked
-      unfolding prepare
-      prepared = q
+    pub atom-unnamed : (x : Refusal) → o ≡ Preparation.the-variants.Refused x → (editedNumbers (Edited.the-variants.Refused x), w) ≡ answer
+    unfolding stepBy addPrepared
+    atom-unnamed x z = rw (g, stood w g i start stop model-spans .there, z)
 
-      pub atom-unnamed : (x : Refusal) → o ≡ Readied.the-variants.Refused x → (editedNumbers (Edited.the-variants.Refused x), w) ≡ answer
-      unfolding stepBy addAtom
-      atom-unnamed x z = rw (g, stood w g i start stop model-spans .there, ← prepared, z)
+    module _ (new : PreparedAddition) (z : o ≡ Preparation.the-variants.Ready new) where
+      pub atom-bad : (b : Bool) → b ≡ goodValues (newAtom new) → b ≡ false → (editedNumbers (Edited.the-variants.Refused BadValue), w) ≡ answer
+      unfolding stepBy addPrepared
+      atom-bad b f t = rw (g, stood w g i start stop model-spans .there, z, ← f, t)
 
-      module _ (n : StoredNames.StoredNames) (z : o ≡ Readied.the-variants.Ready n) (b : Bool) (f : b ≡ goodValues (namedAtom v 0)) where
-        pub atom-bad : b ≡ false → (editedNumbers (Edited.the-variants.Refused BadValue), w) ≡ answer
-        unfolding stepBy addAtom
-        atom-bad t = rw (g, stood w g i start stop model-spans .there, ← prepared, z, values-only v (n .name), ← f, t)
-
-        pub atom-ready : {x : List ℕ × List ℕ} → b ≡ true → x ≡ stepBy w (intoModel (length w) i (addition [] residue code [] location [] v) (preparedOf n)) → x ≡ answer
-        unfolding stepBy addAtom intoModel
-        atom-ready t a = a ∙ rw (g, stood w g i start stop model-spans .there, ← prepared, z, values-only v (n .name), ← f, t)
+      pub atom-ready : {x : List ℕ × List ℕ} → x ≡ stepBy w (addPrepared (length w) i (ok new)) → x ≡ answer
+      atom-ready a = a ∙ rw z

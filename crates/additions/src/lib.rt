@@ -3,22 +3,24 @@
 ghost use mathlib.Core.Path.{_≡_};
 ghost use Prim.Native.Nat.{_+_, _*_, _≤_, _<_};
 ghost use lib.ListN.{length};
-ghost use Rattle.machine.specs.Answer.{editedNumbers};
+ghost use mathlib.Core.Bool.{true};
+ghost use Rattle.machine.specs.Answer.{ok, editedNumbers};
 ghost use Rattle.machine.specs.Text.{optionalOf};
 ghost use Rattle.machine.specs.Record.{goodValues};
 ghost use Rattle.machine.specs.Store.{capacity};
 ghost use mathlib.Core.List.{[], _∷_};
 ghost use mathlib.Core.Option.{some};
-ghost use Rattle.machine.specs.Edit.{addition, namedAtom, prepare, addModel, addAtom, stepBy};
+ghost use Rattle.machine.specs.Edit.{addition, newAtom, prepare, addModel, addPrepared, stepBy};
 ghost use Rattle.seek.specs.Seek.{Good, held, span};
 ghost use Rattle.insertion.specs.Cursor.{Valid};
-ghost use Rattle.additions.specs.Add.{named, wordOf, preparedOf, resultOf, columnWords, put, intoModel};
+ghost use Rattle.additions.specs.Add.{wordOf, resultOf, columnWords, put};
 use elements::Element;
 use insertion::Cursor;
 use machine::Edited;
 use machine::Name;
 use machine::NewAtom;
 use machine::Prepared;
+use machine::PreparedAddition;
 use machine::Record;
 use machine::Refusal;
 use seek::Span;
@@ -41,64 +43,59 @@ fn word_of(prepared: Prepared) -> Word
     }
 }
 
-// An addition's names as they are stored.
-struct StoredNames {
-    chain: u64,
-    code: u64,
-    conformer: u64,
-    location: u64,
-    name: u64,
-}
-
-enum Readied {
-    Ready(StoredNames),
+// An addition that is prepared, or its refusal.
+pub enum Preparation {
+    Ready(PreparedAddition),
     Refused(Refusal),
 }
 
-// The first bad name, of chain, code, conformer, location and atom name, is the one that is answered.
-fn ready(
+// The first bad name, of chain, code, conformer, location and atom name, is the one that is answered. No text goes further than this.
+pub fn prepare(
     chain: &[u8],
+    residue: u64,
     code_flag: u64,
     code: &[u8],
     conformer: &[u8],
     location_flag: u64,
     location: &[u8],
     name: &[u8],
-) -> Readied
-    ensures { λ r. ⌜ resultOf r
-        ≡ prepare (named (now (chain .entry)) (optionalOf «code_flag» (now (code .entry))) (now (conformer .entry)) (optionalOf «location_flag» (now (location .entry))) (now (name .entry))) ⌝ }
+    values: NewAtom,
+) -> Preparation
+    ensures { λ r. ⌜ resultOf r ≡ prepare (addition (now (chain .entry)) residue (optionalOf «code_flag» (now (code .entry)))
+        (now (conformer .entry)) (optionalOf «location_flag» (now (location .entry))) (now (name .entry)) values) ⌝ }
 {
-    let Word::Is(chain_word) = word_of(helper::prepare_chain_id(chain)) else {
-        return Readied::Refused(answers::bad_name(Name::ChainId));
+    let Word::Is(chain) = word_of(helper::prepare_chain_id(chain)) else {
+        return Preparation::Refused(answers::bad_name(Name::ChainId));
     };
-    let Word::Is(code_word) = word_of(helper::prepare_optional_code(code_flag, code)) else {
-        return Readied::Refused(answers::bad_name(Name::InsertionCode));
+    let Word::Is(code) = word_of(helper::prepare_optional_code(code_flag, code)) else {
+        return Preparation::Refused(answers::bad_name(Name::InsertionCode));
     };
-    let Word::Is(conformer_word) = word_of(helper::prepare_identifier_uppercase(conformer)) else {
-        return Readied::Refused(answers::bad_name(Name::ConformerName));
+    let Word::Is(conformer) = word_of(helper::prepare_identifier_uppercase(conformer)) else {
+        return Preparation::Refused(answers::bad_name(Name::ConformerName));
     };
-    let Word::Is(location_word) = word_of(helper::prepare_optional_location(
-        location_flag,
-        location,
-    )) else {
-        return Readied::Refused(answers::bad_name(Name::AlternativeLocation));
+    let prepared = helper::prepare_optional_location(location_flag, location);
+    let Word::Is(location) = word_of(prepared) else {
+        return Preparation::Refused(answers::bad_name(Name::AlternativeLocation));
     };
-    let Word::Is(name_word) = word_of(helper::prepare_atom_name(name)) else {
-        return Readied::Refused(answers::bad_name(Name::AtomName));
+    let Word::Is(name) = word_of(helper::prepare_atom_name(name)) else {
+        return Preparation::Refused(answers::bad_name(Name::AtomName));
     };
-    Readied::Ready(StoredNames {
-        chain: chain_word,
-        code: code_word,
-        conformer: conformer_word,
-        location: location_word,
-        name: name_word,
+    Preparation::Ready(PreparedAddition {
+        chain: chain,
+        residue: residue,
+        code: code,
+        conformer: conformer,
+        location: location,
+        name: name,
+        values: values,
     })
 }
 
 // "7": the floats are finite, the element is at most 118, hetero at most 1.
-fn good_values(values: NewAtom) -> bool
-    ensures { λ r. ⌜ r ≡ goodValues (namedAtom values 0) ⌝ }
+fn good_values(new: PreparedAddition) -> bool
+    ensures { λ r. ⌜ r ≡ goodValues (newAtom new) ⌝ }
 {
+    let values = new.values;
     let position = floats::is_finite(values.x)
         & floats::is_finite(values.y)
         & floats::is_finite(values.z);
@@ -118,21 +115,22 @@ const ATOM_AT: usize = 3 * Record::WIDTH;
 const COLUMN: usize = 4 * Record::WIDTH;
 
 // The words of a chain, its residue, the residue's conformer and the atom.
-fn column_of(names: StoredNames, residue: u64, values: NewAtom) -> [u64; COLUMN]
-    ensures { λ r. ⌜ r ≡ columnWords names residue values ⌝ }
+fn column_of(new: PreparedAddition) -> [u64; COLUMN]
+    ensures { λ r. ⌜ r ≡ columnWords new ⌝ }
 {
+    let values = new.values;
     let mut column = [0u64; COLUMN];
     column[Record::KIND] = Record::CHAIN;
-    column[Record::CHAIN_ID] = names.chain;
+    column[Record::CHAIN_ID] = new.chain;
     column[RESIDUE_AT + Record::KIND] = Record::RESIDUE;
-    column[RESIDUE_AT + Record::SERIAL] = residue;
-    column[RESIDUE_AT + Record::CODE] = names.code;
+    column[RESIDUE_AT + Record::SERIAL] = new.residue;
+    column[RESIDUE_AT + Record::CODE] = new.code;
     column[CONFORMER_AT + Record::KIND] = Record::CONFORMER;
-    column[CONFORMER_AT + Record::CONFORMER_NAME] = names.conformer;
-    column[CONFORMER_AT + Record::LOCATION] = names.location;
+    column[CONFORMER_AT + Record::CONFORMER_NAME] = new.conformer;
+    column[CONFORMER_AT + Record::LOCATION] = new.location;
     column[ATOM_AT + Record::KIND] = Record::ATOM;
     column[ATOM_AT + Record::SERIAL] = values.serial;
-    column[ATOM_AT + Record::ATOM_NAME] = names.name;
+    column[ATOM_AT + Record::ATOM_NAME] = new.name;
     column[ATOM_AT + Record::X] = values.x;
     column[ATOM_AT + Record::Y] = values.y;
     column[ATOM_AT + Record::Z] = values.z;
@@ -186,43 +184,25 @@ pub struct Added {
     pub cursor: Cursor,
 }
 
-// The new records of an atom in the model whose span is given: its names are ready and its values good.
+// The new records of an atom in the model whose span is given: its values are good.
 fn put_atom(
     store: &mut [u64],
     cursor: Cursor,
     model: u64,
     start: usize,
     end: usize,
-    names: StoredNames,
-    residue: u64,
-    code_flag: u64,
-    code: &[u8],
-    location_flag: u64,
-    location: &[u8],
-    values: NewAtom,
+    new: PreparedAddition,
 ) -> Added
     requires { ⌜ Good (now store) ⌝ }
     requires { ⌜ Valid cursor (now store) ⌝ }
     requires { ⌜ span (model ∷ []) (held (now store)) ≡ some (start, end) ⌝ }
+    requires { ⌜ goodValues (newAtom new) ≡ true ⌝ }
     ensures { λ r. ⌜ Valid (r .cursor) (now (store .exit)) ⌝ }
     ensures { λ r. ⌜ (editedNumbers (r .edited), now (store .exit))
-        ≡ stepBy (now (store .entry)) (intoModel (length (now (store .entry))) model
-        (addition [] residue (optionalOf «code_flag» (now (code .entry))) [] (optionalOf «location_flag» (now (location .entry))) [] values) (preparedOf names)) ⌝ }
+        ≡ stepBy (now (store .entry)) (addPrepared (length (now (store .entry))) model (ok new)) ⌝ }
 {
     let count = seek::record_count(store);
-    let spot = insertion::spot_of(
-        store,
-        cursor,
-        start,
-        end,
-        names.chain,
-        residue,
-        code_flag,
-        code,
-        names.conformer,
-        location_flag,
-        location,
-    );
+    let spot = insertion::spot_of(store, cursor, start, end, new);
     let at = spot.at;
     let first = Record::WIDTH * spot.depth;
     if capacity_of(store) < count + 4 - spot.depth {
@@ -231,36 +211,22 @@ fn put_atom(
             cursor: cursor,
         };
     }
-    let column = column_of(names, residue, values);
+    let column = column_of(new);
     put_records(store, at, count, &column[first..]);
-    let next = insertion::advanced(cursor, model, start, end, names.chain, residue, spot);
+    let next = insertion::advanced(cursor, model, start, end, new, spot);
     Added {
         edited: Edited::Done(1, 0),
         cursor: next,
     }
 }
 
-// To the model at an index.
-pub fn add_atom_at(
-    store: &mut [u64],
-    cursor: Cursor,
-    model: u64,
-    chain: &[u8],
-    residue: u64,
-    code_flag: u64,
-    code: &[u8],
-    conformer: &[u8],
-    location_flag: u64,
-    location: &[u8],
-    name: &[u8],
-    values: NewAtom,
-) -> Added
+// An atom, to the model at an index: "5" comes before what the preparation refuses.
+pub fn add_prepared(store: &mut [u64], cursor: Cursor, model: u64, prepared: Preparation) -> Added
     requires { ⌜ Good (now store) ⌝ }
     requires { ⌜ Valid cursor (now store) ⌝ }
     ensures { λ r. ⌜ Valid (r .cursor) (now (store .exit)) ⌝ }
     ensures { λ r. ⌜ (editedNumbers (r .edited), now (store .exit))
-        ≡ stepBy (now (store .entry)) (addAtom (length (now (store .entry))) model (addition (now (chain .entry)) residue
-        (optionalOf «code_flag» (now (code .entry))) (now (conformer .entry)) (optionalOf «location_flag» (now (location .entry))) (now (name .entry)) values)) ⌝ }
+        ≡ stepBy (now (store .entry)) (addPrepared (length (now (store .entry))) model (resultOf prepared)) ⌝ }
 {
     let Span::At(start, end) = insertion::model_span(store, cursor, model) else {
         return Added {
@@ -268,38 +234,17 @@ pub fn add_atom_at(
             cursor: cursor,
         };
     };
-    match ready(
-        chain,
-        code_flag,
-        code,
-        conformer,
-        location_flag,
-        location,
-        name,
-    ) {
-        Readied::Ready(names) => {
-            if good_values(values) {
-                return put_atom(
-                    store,
-                    cursor,
-                    model,
-                    start,
-                    end,
-                    names,
-                    residue,
-                    code_flag,
-                    code,
-                    location_flag,
-                    location,
-                    values,
-                );
+    match prepared {
+        Preparation::Ready(new) => {
+            if good_values(new) {
+                return put_atom(store, cursor, model, start, end, new);
             }
             Added {
                 edited: Edited::Refused(Refusal::BadValue),
                 cursor: cursor,
             }
         }
-        Readied::Refused(refusal) => Added {
+        Preparation::Refused(refusal) => Added {
             edited: Edited::Refused(refusal),
             cursor: cursor,
         },
@@ -307,37 +252,11 @@ pub fn add_atom_at(
 }
 
 // Without a cursor.
-pub fn add_atom(
-    store: &mut [u64],
-    model: u64,
-    chain: &[u8],
-    residue: u64,
-    code_flag: u64,
-    code: &[u8],
-    conformer: &[u8],
-    location_flag: u64,
-    location: &[u8],
-    name: &[u8],
-    values: NewAtom,
-) -> Edited
+pub fn add_atom(store: &mut [u64], model: u64, prepared: Preparation) -> Edited
     requires { ⌜ Good (now store) ⌝ }
     ensures { λ r. ⌜ (editedNumbers r, now (store .exit))
-        ≡ stepBy (now (store .entry)) (addAtom (length (now (store .entry))) model (addition (now (chain .entry)) residue
-        (optionalOf «code_flag» (now (code .entry))) (now (conformer .entry)) (optionalOf «location_flag» (now (location .entry))) (now (name .entry)) values)) ⌝ }
+        ≡ stepBy (now (store .entry)) (addPrepared (length (now (store .entry))) model (resultOf prepared)) ⌝ }
 {
-    let added = add_atom_at(
-        store,
-        insertion::no_cursor(),
-        model,
-        chain,
-        residue,
-        code_flag,
-        code,
-        conformer,
-        location_flag,
-        location,
-        name,
-        values,
-    );
+    let added = add_prepared(store, insertion::no_cursor(), model, prepared);
     added.edited
 }

@@ -73,7 +73,7 @@ fn case_10(store: &mut [u64]) {
     add(store, 1, b"a", 1);
     add(store, 1, b"a", 2);
     add(store, 1, b"A", 3);
-    print_records(store, 9);
+    print_records(store, 7);
 }
 
 // How many atoms a run of find listed.

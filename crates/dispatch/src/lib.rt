@@ -70,10 +70,7 @@ pub fn add_atom(store: &mut [u64], cursor: Cursor, words: &[u64], bytes: &[u8]) 
     let conformer = part_end(words, code);
     let location = part_end(words, conformer);
     let name = part_end(words, location);
-    additions::add_atom_at(
-        store,
-        cursor,
-        words[0],
+    let prepared = additions::prepare(
         &bytes[14..chain],
         words[1],
         words[2],
@@ -83,7 +80,8 @@ pub fn add_atom(store: &mut [u64], cursor: Cursor, words: &[u64], bytes: &[u8]) 
         &bytes[conformer + 1..location],
         &bytes[location + 1..name],
         values(words),
-    )
+    );
+    additions::add_prepared(store, cursor, words[0], prepared)
 }
 
 fn remove_chain_by_id(store: &mut [u64], words: &[u64], bytes: &[u8]) -> Edited

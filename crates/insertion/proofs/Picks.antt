@@ -12,7 +12,8 @@ use Rattle.machine.specs.Lists.{orElse}
 use Rattle.machine.specs.Record.{Words, kind}
 use Rattle.machine.specs.Edit.{Which, first, last, pick}
 use Rattle.laws.specs.Lists.{All}
-use Rattle.insertion.specs.Pick.{Key, marks}
+use Rattle.insertion.specs.Pick.{marks}
+use Rattle.insertion.specs.declared.Key.{Key}
 
 -- what is picked where the first element is marked or not, by what is picked of the others
 abbrev pub chosen : Which → Bool → Option ℕ → Option ℕ
@@ -60,5 +61,5 @@ module _ {A : Type 0} (p : A → Bool) where
   pick-within last (x ∷ xs) o e = one-more last (p x) (pick last p xs) (length xs) (pick-within last xs) o e
 
 -- a record of a higher kind is not marked
-pub unmarked : (h : ℕ) (key : Key) (r : Words) → h < kind r → marks h key r ≡ false
-unmarked h key r l = rw (ne-eqb (kind r) h (λ e. omega arith))
+pub unmarked : (key : Key) (r : Words) → key .kind < kind r → marks key r ≡ false
+unmarked key r l = rw (ne-eqb (kind r) (key .kind) (λ e. omega arith))

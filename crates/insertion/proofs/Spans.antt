@@ -18,7 +18,8 @@ use Rattle.laws.specs.Grouped.{chunks-length}
 use Rattle.laws.specs.Layout.{records-read, read-parts}
 use Rattle.seek.specs.Seek.{held, Good, Within, recordAt, recordsIn, descendants, child, childSpan, toEnd, span}
 use Rattle.seek.proofs.Below.{recordsIn-cons, descendants-over, end-within, child-below, child-span}
-use Rattle.insertion.specs.Pick.{Key, marks, pickSpan}
+use Rattle.insertion.specs.Pick.{whichBy, marks, pickSpan}
+use Rattle.insertion.specs.declared.Key.{Key}
 use Rattle.insertion.proofs.Picks.{pick-over, pick-within}
 
 -- ---- a record that is found, and where its descendants end
@@ -151,9 +152,9 @@ pub record SpanInside (from end start stop : ℕ) : Type 0 where
   pub order : start < stop
   pub high : stop ≤ end
 
-module _ (w : List ℕ) (from end h : ℕ) (b : Within from end w) where
-  ended-inside : (c : Option ℕ) (start stop : ℕ) → ((o : ℕ) → c ≡ some o → from + o < end) → toSpan h from c (recordsIn from end w) ≡ some (start, stop) → SpanInside from end start stop
-  ended-inside c start stop f e =
+module _ (w : List ℕ) (from end : ℕ) (b : Within from end w) where
+  ended-inside : (h : ℕ) (c : Option ℕ) (start stop : ℕ) → ((o : ℕ) → c ≡ some o → from + o < end) → toSpan h from c (recordsIn from end w) ≡ some (start, stop) → SpanInside from end start stop
+  ended-inside h c start stop f e =
       let d = ended h from c (recordsIn from end w) start stop e in
       let x = d .number in
       let y = d .ends in
@@ -163,10 +164,10 @@ module _ (w : List ℕ) (from end h : ℕ) (b : Within from end w) where
       let t = end-within w (from + suc (d .offset)) end h (record { order = omega arith; room = b .room }) in
       record { low = omega arith; order = omega arith; high = omega arith }
 
-  pub picked-inside : (key : Key) (start stop : ℕ) → pickSpan h key from (recordsIn from end w) ≡ some (start, stop) → SpanInside from end start stop
+  pub picked-inside : (key : Key) (start stop : ℕ) → pickSpan key from (recordsIn from end w) ≡ some (start, stop) → SpanInside from end start stop
   picked-inside key start stop e =
-      ended-inside (pick (key .which) (marks h key) (recordsIn from end w)) start stop
-      (λ o q. omega (arith, b .order, pick-within (marks h key) (key .which) (recordsIn from end w) o q, length-drop from (chunks end w), chunks-length end w))
+      ended-inside (key .kind) (pick (whichBy (key .«from_back»)) (marks key) (recordsIn from end w)) start stop
+      (λ o q. omega (arith, b .order, pick-within (marks key) (whichBy (key .«from_back»)) (recordsIn from end w) o q, length-drop from (chunks end w), chunks-length end w))
       e
 
 pub model-inside : (w : List ℕ) → Good w → (i start stop : ℕ) → childSpan 1 i 0 (recordsOf w) ≡ some (start, stop) → SpanInside 0 (length (recordsOf w)) start stop
@@ -174,7 +175,7 @@ model-inside w g i start stop e =
     let c = chunks-length (end w / 12) w in
     let l = read-parts w (held w) g .low in
     let b : Within 0 (end w / 12) w = record { order = omega arith; room = omega arith } in
-    let d = ended-inside w 0 (end w / 12) 1 b (child 1 i (recordsOf w)) start stop (λ o q. child-below w 1 i 0 (end w / 12) o b q) e in
+    let d = ended-inside w 0 (end w / 12) b 1 (child 1 i (recordsOf w)) start stop (λ o q. child-below w 1 i 0 (end w / 12) o b q) e in
     record { low = d .low; order = d .order; high = omega (arith, d .high) }
 
 pub model-span : (w : List ℕ) → Good w → (i : ℕ) → childSpan 1 i 0 (recordsOf w) ≡ span (i ∷ []) (held w)

@@ -2,31 +2,38 @@
 // match. The store is known to be good. Consecutive additions reuse the previous insertion point: a `Cursor` keeps it, which saves the
 // scans of the model and of the chain where a list is in file order.
 ghost use mathlib.Core.Path.{_≡_};
-ghost use mathlib.Core.Bool.{true, false};
+ghost use mathlib.Core.Bool.{false};
 ghost use mathlib.Core.List.{[], _∷_};
 ghost use Prim.Native.Nat.{_+_, _*_, _≤_};
 ghost use lib.ListN.{length};
-ghost use Rattle.machine.specs.Text.{optionalOf};
 ghost use Rattle.seek.specs.Seek.{Good, Within, held, recordAt, recordsIn, span, spanOf};
-ghost use Rattle.insertion.specs.Pick.{keyOf, marks, pickStart, pickSpan, childOf, keysOf, spotIn, foundOf};
+ghost use Rattle.insertion.specs.Pick.{marks, pickStart, pickSpan, childOf, chainKey, residueKey, conformerKey, keysOf, spotIn, foundOf};
 ghost use Rattle.insertion.specs.Cursor.{rank, Valid, Lands, Advances};
+use machine::PreparedAddition;
 use machine::Record;
 use seek::Span;
 
 // ---- records by what marks them
 
-// Whether a record has the kind and word 1, and the text as given is its word 2.
-fn is_marked(store: &[u64], at: usize, kind: u64, word: u64, flag: u64, text: &[u8]) -> bool
+// What a record below a parent is looked for by: its kind, its words 1 and 2, and whether the last of such records is meant or the first.
+pub struct Key {
+    kind: u64,
+    first: u64,
+    second: u64,
+    from_back: bool,
+}
+
+fn is_marked(store: &[u64], at: usize, key: Key) -> bool
     requires { ⌜ at * 12 + 12 ≤ length (now store) ⌝ }
-    ensures { λ r. ⌜ r ≡ marks kind (keyOf false word flag (now (text .entry))) (recordAt at (now (store .entry))) ⌝ }
+    ensures { λ r. ⌜ r ≡ marks key (recordAt at (now (store .entry))) ⌝ }
 {
-    if store[at * Record::WIDTH] != kind {
+    if store[at * Record::WIDTH] != key.kind {
         return false;
     }
-    if store[at * Record::WIDTH + Record::FIRST] != word {
+    if store[at * Record::WIDTH + Record::FIRST] != key.first {
         return false;
     }
-    stored::same_optional(flag, text, store[at * Record::WIDTH + Record::SECOND])
+    store[at * Record::WIDTH + Record::SECOND] == key.second
 }
 
 // The number of a record.
@@ -35,25 +42,16 @@ enum Child {
     Missing,
 }
 
-// The first of the records from `from` up to `end` that is marked, or the last.
-fn find_child(
-    store: &[u64],
-    from: usize,
-    end: usize,
-    kind: u64,
-    last: bool,
-    word: u64,
-    flag: u64,
-    text: &[u8],
-) -> Child
+// The record that the key finds among those from `from` up to `end`.
+fn find_child(store: &[u64], from: usize, end: usize, key: Key) -> Child
     requires { ⌜ Within from end (now store) ⌝ }
-    ensures { λ r. ⌜ r ≡ childOf (pickStart kind (keyOf last word flag (now (text .entry))) from (recordsIn from end (now (store .entry)))) ⌝ }
+    ensures { λ r. ⌜ r ≡ childOf (pickStart key from (recordsIn from end (now (store .entry)))) ⌝ }
 {
     let mut best = Child::Missing;
     let mut at: usize = from;
     while at < end {
-        if is_marked(store, at, kind, word, flag, text) {
-            if last {
+        if is_marked(store, at, key) {
+            if key.from_back {
                 best = Child::At(at);
                 at += 1;
             } else {
@@ -67,23 +65,14 @@ fn find_child(
 }
 
 // That record, with where its descendants end.
-fn pick_child(
-    store: &[u64],
-    from: usize,
-    end: usize,
-    kind: u64,
-    last: bool,
-    word: u64,
-    flag: u64,
-    text: &[u8],
-) -> Span
+fn pick_child(store: &[u64], from: usize, end: usize, key: Key) -> Span
     requires { ⌜ Within from end (now store) ⌝ }
-    ensures { λ r. ⌜ r ≡ spanOf (pickSpan kind (keyOf last word flag (now (text .entry))) from (recordsIn from end (now (store .entry)))) ⌝ }
+    ensures { λ r. ⌜ r ≡ spanOf (pickSpan key from (recordsIn from end (now (store .entry)))) ⌝ }
 {
-    let Child::At(at) = find_child(store, from, end, kind, last, word, flag, text) else {
+    let Child::At(at) = find_child(store, from, end, key) else {
         return Span::Missing;
     };
-    Span::At(at, seek::end_of(store, at + 1, end, kind))
+    Span::At(at, seek::end_of(store, at + 1, end, key.kind))
 }
 
 // ---- the cursor: where the previous addition went
@@ -154,15 +143,21 @@ pub fn model_span(store: &[u64], cursor: Cursor, model: u64) -> Span
 }
 
 // `pick_child` for the first chain with an id, in the model at `start`.
-fn chain_span(store: &[u64], cursor: Cursor, start: usize, end: usize, id: u64, text: &[u8]) -> Span
+fn chain_span(store: &[u64], cursor: Cursor, start: usize, end: usize, id: u64) -> Span
     requires { ⌜ Within (start + 1) end (now store) ⌝ }
     requires { ⌜ Valid cursor (now store) ⌝ }
-    ensures { λ r. ⌜ r ≡ spanOf (pickSpan 2 (keyOf false id 0 (now (text .entry))) (start + 1) (recordsIn (start + 1) end (now (store .entry)))) ⌝ }
+    ensures { λ r. ⌜ r ≡ spanOf (pickSpan (chainKey id) (start + 1) (recordsIn (start + 1) end (now (store .entry)))) ⌝ }
 {
     if cursor.known & (cursor.start == start) & (cursor.model_end == end) & (cursor.id == id) {
         return Span::At(cursor.chain, cursor.chain_end);
     }
-    pick_child(store, start + 1, end, Record::CHAIN, false, id, 0, text)
+    let key = Key {
+        kind: Record::CHAIN,
+        first: id,
+        second: 0,
+        from_back: false,
+    };
+    pick_child(store, start + 1, end, key)
 }
 
 // `pick_child` for the last residue with a serial and a code, in the chain at `chain`.
@@ -172,31 +167,41 @@ fn residue_span(
     chain: usize,
     end: usize,
     serial: u64,
-    flag: u64,
-    code: &[u8],
+    code: u64,
 ) -> Span
     requires { ⌜ Within (chain + 1) end (now store) ⌝ }
     requires { ⌜ Valid cursor (now store) ⌝ }
-    ensures { λ r. ⌜ r ≡ spanOf (pickSpan 3 (keyOf true serial flag (now (code .entry))) (chain + 1) (recordsIn (chain + 1) end (now (store .entry)))) ⌝ }
+    ensures { λ r. ⌜ r ≡ spanOf (pickSpan (residueKey serial code) (chain + 1) (recordsIn (chain + 1) end (now (store .entry)))) ⌝ }
 {
+    let key = Key {
+        kind: Record::RESIDUE,
+        first: serial,
+        second: code,
+        from_back: true,
+    };
     if cursor.known & (cursor.chain == chain) & (cursor.chain_end == end) {
-        if is_marked(store, cursor.residue, Record::RESIDUE, serial, flag, code) {
+        if is_marked(store, cursor.residue, key) {
             return Span::At(cursor.residue, end);
         }
         if cursor.topped & (cursor.top < rank_of(serial)) {
             return Span::Missing;
         }
     }
-    pick_child(
-        store,
-        chain + 1,
-        end,
-        Record::RESIDUE,
-        true,
-        serial,
-        flag,
-        code,
-    )
+    pick_child(store, chain + 1, end, key)
+}
+
+// `pick_child` for the first conformer with a name and a location, in the residue at `residue`.
+fn conformer_span(store: &[u64], residue: usize, end: usize, name: u64, location: u64) -> Span
+    requires { ⌜ Within (residue + 1) end (now store) ⌝ }
+    ensures { λ r. ⌜ r ≡ spanOf (pickSpan (conformerKey name location) (residue + 1) (recordsIn (residue + 1) end (now (store .entry)))) ⌝ }
+{
+    let key = Key {
+        kind: Record::CONFORMER,
+        first: name,
+        second: location,
+        from_back: false,
+    };
+    pick_child(store, residue + 1, end, key)
 }
 
 // ---- where the new records go
@@ -215,20 +220,12 @@ pub fn spot_of(
     cursor: Cursor,
     start: usize,
     end: usize,
-    id: u64,
-    residue: u64,
-    code_flag: u64,
-    code: &[u8],
-    conformer: u64,
-    location_flag: u64,
-    location: &[u8],
+    new: PreparedAddition,
 ) -> Spot
     requires { ⌜ Within (start + 1) end (now store) ⌝ }
     requires { ⌜ Valid cursor (now store) ⌝ }
-    ensures { λ r. ⌜ foundOf r ≡ spotIn 2
-        (keysOf id residue (optionalOf «code_flag» (now (code .entry))) conformer (optionalOf «location_flag» (now (location .entry))))
-        (start + 1) end (now (store .entry)) ⌝ }
-    ensures { λ r. ⌜ Lands start end id (now (store .entry)) r ⌝ }
+    ensures { λ r. ⌜ foundOf r ≡ spotIn (keysOf new) (start + 1) end (now (store .entry)) ⌝ }
+    ensures { λ r. ⌜ Lands start end (new .chain) (now (store .entry)) r ⌝ }
 {
     let mut spot = Spot {
         at: end,
@@ -236,36 +233,21 @@ pub fn spot_of(
         chain: end,
         chain_end: end,
     };
-    let Span::At(chain, chain_end) = chain_span(store, cursor, start, end, id, code) else {
+    let Span::At(chain, chain_end) = chain_span(store, cursor, start, end, new.chain) else {
         return spot;
     };
     spot.at = chain_end;
     spot.depth = 1;
     spot.chain = chain;
     spot.chain_end = chain_end;
-    let Span::At(residue_at, residue_end) = residue_span(
-        store,
-        cursor,
-        chain,
-        chain_end,
-        residue,
-        code_flag,
-        code,
-    ) else {
+    let residues = residue_span(store, cursor, chain, chain_end, new.residue, new.code);
+    let Span::At(residue, residue_end) = residues else {
         return spot;
     };
     spot.at = residue_end;
     spot.depth = 2;
-    let Span::At(_, conformer_end) = pick_child(
-        store,
-        residue_at + 1,
-        residue_end,
-        Record::CONFORMER,
-        false,
-        conformer,
-        location_flag,
-        location,
-    ) else {
+    let conformers = conformer_span(store, residue, residue_end, new.conformer, new.location);
+    let Span::At(_, conformer_end) = conformers else {
         return spot;
     };
     spot.at = conformer_end;
@@ -279,25 +261,24 @@ pub fn advanced(
     model: u64,
     start: usize,
     end: usize,
-    id: u64,
-    serial: u64,
+    new: PreparedAddition,
     spot: Spot,
 ) -> Cursor
     requires { ⌜ (end ≤ 100000) × (spot .«chain_end» ≤ end) × (spot .depth ≤ 3) ⌝ }
-    ensures { λ r. ⌜ Advances cursor model start end id serial spot r ⌝ }
+    ensures { λ r. ⌜ Advances cursor model start end new spot r ⌝ }
 {
     let mut next = no_cursor();
     next.model = model;
     next.start = start;
     next.model_end = end + 4 - spot.depth;
-    next.id = id;
+    next.id = new.chain;
     if spot.depth == 0 {
         next.known = true;
         next.chain = end;
         next.chain_end = end + 4;
         next.residue = end + 1;
         next.topped = true;
-        next.top = rank_of(serial);
+        next.top = rank_of(new.residue);
         return next;
     }
     next.chain = spot.chain;
@@ -307,7 +288,7 @@ pub fn advanced(
         next.known = true;
         next.residue = spot.at;
         next.topped = same & cursor.topped;
-        next.top = highest(cursor.top, rank_of(serial));
+        next.top = highest(cursor.top, rank_of(new.residue));
         return next;
     }
     next.known = same & (cursor.residue < spot.at);

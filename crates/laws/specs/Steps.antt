@@ -14,12 +14,13 @@ use Rattle.machine.specs.Text.{Optional, chainId, insertionCode, conformerName,
 use Rattle.machine.specs.Record.{Fields, goodFields, goodValues}
 use Rattle.machine.specs.Store.{Branch, Machine, records, flat, stored, capacity, atomCount}
 use Rattle.machine.specs.Query.{readTree}
-use Rattle.machine.specs.Edit.{Addition, Call, AddModel, AddAtom, RemoveChain, RemoveResidue, RemoveConformer, RemoveAtom, RemoveChainById, RemoveResidueById, RemoveConformerById, RemoveAtomBySerialNumber, RemoveAtomsBy, RemoveEmpty, JoinModels, JoinChains, JoinResidues, JoinConformers, Change, up, branchAt, replaceAt, position, fits, addModel, accept, Prepare, prepare, newAtom, Which, first, last, pick, putIn, upsert, intoChains, addAtom, removeAt, root, withChildren, without, removeFirst, withFound, keepAtoms, removeAtomsBy, nonEmpty, removeEmpty, joinAt, withMachine, machineStep, answer, next}
+use Rattle.machine.specs.Edit.{Addition, Call, AddModel, AddAtom, RemoveChain, RemoveResidue, RemoveConformer, RemoveAtom, RemoveChainById, RemoveResidueById, RemoveConformerById, RemoveAtomBySerialNumber, RemoveAtomsBy, RemoveEmpty, JoinModels, JoinChains, JoinResidues, JoinConformers, Change, up, branchAt, replaceAt, position, fits, addModel, accept, prepare, newAtom, Which, first, last, pick, putIn, upsert, intoChains, addPrepared, addAtom, removeAt, root, withChildren, without, removeFirst, withFound, keepAtoms, removeAtomsBy, nonEmpty, removeEmpty, joinAt, withMachine, machineStep, answer, next}
 use Rattle.machine.specs.declared.Refusal.{Refusal}
 use Rattle.machine.specs.declared.Refusal.the-variants.{BadLength, BrokenLayout, TreeShape, TreeNode, NoPosition, BadIdentifier, BadValue, NoCapacity, JoinWithItself, ShortOutput, BadFile, TooWide, ShortText, BadInsertionCode, BadConformer, BadAtomName, BadList, ShortAnswers}
 use Rattle.machine.specs.declared.Name.{Name}
 use Rattle.machine.specs.declared.Name.the-variants.{ChainId, InsertionCode, ConformerName, AlternativeLocation, AtomName}
 use Rattle.machine.specs.declared.Prepared.{Prepared}
+use Rattle.machine.specs.declared.PreparedAddition.{PreparedAddition}
 use Rattle.machine.specs.declared.Prepared.the-variants.{Stored, Absent, Bad}
 use Rattle.machine.specs.Demand.{addedBy, removedBy}
 use Rattle.laws.specs.Lists.{and-both, and-true, sum-append, length-concatMap}
@@ -239,12 +240,12 @@ module _ (k : ℕ) (w : Which) (p : Fields (suc k) → Bool) (new : Fields (suc 
   upsert-good g n ts h =
       putIn-all (goodBranch (suc k)) (pick w (λ t. p (t .0)) ts) (λ t. (t .0, f (t .1))) (new, f []) ts (λ t o. good-children k t (f (t .1)) o (g (t .1) (good-parts k t o .1))) (and-true n (g [] refl)) h
 
-atom-one : (a : Addition) (p : Prepare) (us : List (Branch 0)) → sum (atomCount 0) (us ++ (newAtom a p ∷ [])) ≡ suc (sum (atomCount 0) us)
+atom-one : (p : PreparedAddition) (us : List (Branch 0)) → sum (atomCount 0) (us ++ (newAtom p ∷ [])) ≡ suc (sum (atomCount 0) us)
 unfolding atomCount
-atom-one a p us = omega (arith, sum-append (atomCount 0) us (newAtom a p ∷ []))
+atom-one p us = omega (arith, sum-append (atomCount 0) us (newAtom p ∷ []))
 
-intoChains-count : (a : Addition) (p : Prepare) (ts : List (Branch 3)) → sum (atomCount 3) (intoChains a p ts) ≡ suc (sum (atomCount 3) ts)
-intoChains-count a p ts = upsert-count 2 _ _ _ _ (upsert-count 1 _ _ _ _ (upsert-count 0 _ _ _ _ (atom-one a p))) ts
+intoChains-count : (p : PreparedAddition) (ts : List (Branch 3)) → sum (atomCount 3) (intoChains p ts) ≡ suc (sum (atomCount 3) ts)
+intoChains-count p ts = upsert-count 2 _ _ _ _ (upsert-count 1 _ _ _ _ (upsert-count 0 _ _ _ _ (atom-one p))) ts
 
 -- ---- an addition's names are in stored form
 
@@ -285,7 +286,7 @@ module _ (n : Name) (rule : List ℕ → Prepared) (w : ℕ) where
   optional-good o stores e = prepared-good (optional rule o) (λ q. stores (o .text) w (flag-stored (o .flag) (rule (o .text)) w q)) e
 
 -- an addition's names as they are stored are good
-record GoodNames (p : Prepare) : Type 0 where
+record GoodNames (p : PreparedAddition) : Type 0 where
   chain : storedBy chainId (p .chain) ≡ true
   code : absentOr insertionCode (p .code) ≡ true
   conformer : storedBy conformerName (p .conformer) ≡ true
@@ -310,12 +311,12 @@ prepare-good a =
 
 -- ---- good additions
 
-module _ (a : Addition) (p : Prepare) (g : GoodNames p) (values : goodValues (newAtom a p) ≡ true) where
-  atom-good : (us : List (Branch 0)) → all (goodBranch 0) us ≡ true → all (goodBranch 0) (us ++ (newAtom a p ∷ [])) ≡ true
+module _ (p : PreparedAddition) (g : GoodNames p) (values : goodValues (newAtom p) ≡ true) where
+  atom-good : (us : List (Branch 0)) → all (goodBranch 0) us ≡ true → all (goodBranch 0) (us ++ (newAtom p ∷ [])) ≡ true
   unfolding goodBranch goodFields
-  atom-good us h = all-append (goodBranch 0) us (newAtom a p ∷ []) h (and-true (and-true (g .name) values) refl)
+  atom-good us h = all-append (goodBranch 0) us (newAtom p ∷ []) h (and-true (and-true (g .name) values) refl)
 
-  intoChains-good : (ts : List (Branch 3)) → all (goodBranch 3) ts ≡ true → all (goodBranch 3) (intoChains a p ts) ≡ true
+  intoChains-good : (ts : List (Branch 3)) → all (goodBranch 3) ts ≡ true → all (goodBranch 3) (intoChains p ts) ≡ true
   unfolding goodFields
   intoChains-good ts h =
       upsert-good 2 first _ _ _ (upsert-good 1 last _ _ _ (upsert-good 0 first _ _ _ atom-good (and-true (g .conformer) (g .location))) (g .code)) (g .chain) ts h
@@ -338,30 +339,30 @@ addModel-grows n serial m =
     fits-grows n 0 m (m ++ (new ∷ [])) (λ h. all-append (goodBranch 4) m (new ∷ []) h refl) (omega (arith, sum-append (atomCount 4) m (new ∷ []), atoms .splits 3 new))
 
 -- the machine with an atom added to the model t at index i
-abbrev withAtom : ℕ → Addition → Prepare → Branch 4 → Machine → Machine
-withAtom i a p t m = withChildren 0 3 (i ∷ []) t (intoChains a p (t .1)) m
+abbrev withAtom : ℕ → PreparedAddition → Branch 4 → Machine → Machine
+withAtom i p t m = withChildren 0 3 (i ∷ []) t (intoChains p (t .1)) m
 
-module _ (i : ℕ) (a : Addition) (m : Machine) (t : Branch 4) (p : Prepare) (there : branchAt 0 4 (i ∷ []) m ≡ some t) where
-  added-count : stored (withAtom i a p t m) ≡ 1 + stored m
+module _ (i : ℕ) (m : Machine) (t : Branch 4) (p : PreparedAddition) (there : branchAt 0 4 (i ∷ []) m ≡ some t) where
+  added-count : stored (withAtom i p t m) ≡ 1 + stored m
   added-count =
-      let new : Branch 4 = (t .0, intoChains a p (t .1)) in
-      omega (arith, replace-sum atoms 0 4 (i ∷ []) (new ∷ []) m t there, intoChains-count a p (t .1), atoms .splits 3 t, atoms .splits 3 new)
+      let new : Branch 4 = (t .0, intoChains p (t .1)) in
+      omega (arith, replace-sum atoms 0 4 (i ∷ []) (new ∷ []) m t there, intoChains-count p (t .1), atoms .splits 3 t, atoms .splits 3 new)
 
-  added-good : GoodNames p → goodValues (newAtom a p) ≡ true → all (goodBranch 4) m ≡ true
-      → all (goodBranch 4) (withAtom i a p t m) ≡ true
+  added-good : GoodNames p → goodValues (newAtom p) ≡ true → all (goodBranch 4) m ≡ true
+      → all (goodBranch 4) (withAtom i p t m) ≡ true
   added-good names values h =
       let g = branch-good 0 4 (i ∷ []) m t there h in
-      replace-all 0 4 (i ∷ []) _ m h (and-true (good-children 3 t _ g (intoChains-good a p names values (t .1) (good-parts 3 t g .1))) refl)
+      replace-all 0 4 (i ∷ []) _ m h (and-true (good-children 3 t _ g (intoChains-good p names values (t .1) (good-parts 3 t g .1))) refl)
 
 addAtom-grows : (n i : ℕ) (a : Addition) (m : Machine) → IfOk (λ c. Grows n 1 m (c .after)) (addAtom n i a m)
-unfolding addAtom
+unfolding addPrepared
 addAtom-grows n i a m =
     if-concatMap _ (position (branchAt 0 4 (i ∷ []) m)) _
     (λ t e. if-concatMap _ (prepare a) _
-    (λ p f. if-then _ (need (goodValues (newAtom a p)) BadValue) _
+    (λ p f. if-then _ (need (goodValues (newAtom p)) BadValue) _
     (λ u g.
     let there = position-some _ t e in
-    fits-grows n 1 m (withAtom i a p t m) (λ h. added-good i a m t p there (if-ok (rw f at (prepare-good a))) (need-true _ _ u g) h) (added-count i a m t p there))))
+    fits-grows n 1 m (withAtom i p t m) (λ h. added-good i m t p there (if-ok (rw f at (prepare-good a))) (need-true _ _ u g) h) (added-count i m t p there))))
 
 -- ---- one call
 

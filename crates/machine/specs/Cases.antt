@@ -12,7 +12,7 @@ use Rattle.machine.specs.Record.{Words, words, fieldsOf, goodValues, goo
 use Rattle.machine.specs.Store.{Machine, stored, flat, atomCount, laid, layOut, inOrder, goodLayout, sections, group, readStore}
 use Rattle.machine.specs.Query.{codes, nodeOf, nodesOf, run, leavesOne, readTree, treeValue, dropSign, close, termValue, tables, packedName}
 use Rattle.machine.specs.Find.{enter, atomsIn, atomsOf, hitsIn, hitsOf, findRun}
-use Rattle.machine.specs.Edit.{Addition, addition, Call, AddModel, AddAtom, branchAt, replaceAt, addModel, prepare, upsert, addAtom, machineStep, stepBy, storeStep, storeAfter, storeAnswers}
+use Rattle.machine.specs.Edit.{Addition, addition, Call, AddModel, AddAtom, branchAt, replaceAt, addModel, prepare, upsert, addPrepared, machineStep, stepBy, storeStep, storeAfter, storeAnswers}
 use Rattle.machine.specs.Program.{readInput, digits, printed, programRun}
 use Rattle.machine.specs.Demand.{undecided}
 
@@ -94,9 +94,9 @@ abbrev pub present : String → Optional
 present t = record { flag = 1; text = bytes t }
 
 -- an atom under chain A, residue 7, conformer ALA
-abbrev pub atom : ℕ → Optional → Addition
-atom serial code =
-    addition (bytes "A") 7 code (bytes "ALA") absent (bytes "N")
+abbrev pub atom : ℕ → Optional → Optional → Addition
+atom serial code location =
+    addition (bytes "A") 7 code (bytes "ALA") location (bytes "N")
     (record { serial = serial; x = 0; y = 0; z = 0; occupancy = 0; «b_factor» = 0; element = 7; charge = 0; hetero = 0 })
 
 abbrev pub zeros : ℕ → List ℕ
@@ -104,25 +104,23 @@ zeros n = replicate n 0
 
 -- "Atom added to one empty model"
 abbrev pub oneAtom : List Call
-oneAtom = AddModel 1 ∷ AddAtom 0 (atom 1 absent) ∷ []
+oneAtom = AddModel 1 ∷ AddAtom 0 (atom 1 absent absent) ∷ []
 
 -- "Code `a` added twice", "then `A`"
 abbrev pub threeAtoms : List Call
-threeAtoms = AddModel 1 ∷ AddAtom 0 (atom 1 (present "a")) ∷ AddAtom 0 (atom 2 (present "a")) ∷ AddAtom 0 (atom 3 (present "A")) ∷ []
+threeAtoms = AddModel 1 ∷ AddAtom 0 (atom 1 (present "a") absent) ∷ AddAtom 0 (atom 2 (present "a") absent) ∷ AddAtom 0 (atom 3 (present "A") absent) ∷ []
 
 abbrev pub atomRecord : ℕ → Words
 atomRecord serial = record12 (5 ∷ serial ∷ packedName "N" ∷ 0 ∷ 0 ∷ 0 ∷ 0 ∷ 0 ∷ 7 ∷ [])
 
--- "two residues `A`; then `A` joins the second"
-abbrev pub twoResidues : List Words
-twoResidues =
+-- change request §3: "Case 10 becomes one residue for all three atoms"
+abbrev pub oneResidue : List Words
+oneResidue =
     record12 (1 ∷ 1 ∷ [])
     ∷ record12 (2 ∷ packedName "A" ∷ [])
     ∷ record12 (3 ∷ 7 ∷ packedName "A" ∷ [])
     ∷ record12 (4 ∷ packedName "ALA" ∷ [])
     ∷ atomRecord 1
-    ∷ record12 (3 ∷ 7 ∷ packedName "A" ∷ [])
-    ∷ record12 (4 ∷ packedName "ALA" ∷ [])
     ∷ atomRecord 2
     ∷ atomRecord 3
     ∷ []
@@ -164,9 +162,9 @@ cases =
     ∷ case 8 (found (withBFactor 0x3cb0_0000_0000_0000) (bFactor 0x3370_0000_0000_0000)) []
     ∷ case 9 (concatMap (λ (a : List ℕ). a) (storeAnswers (zeros 61) oneAtom)) (0 ∷ 1 ∷ 0 ∷ 0 ∷ 1 ∷ 0 ∷ [])
     ∷ case 9 (concatMap (λ (a : List ℕ). a) (storeAnswers (zeros 60) oneAtom)) (0 ∷ 1 ∷ 0 ∷ 8 ∷ 0 ∷ 0 ∷ [])
-    ∷ case 10 (storeAfter (zeros 121) threeAtoms) (store 121 twoResidues)
+    ∷ case 10 (storeAfter (zeros 121) threeAtoms) (store 121 oneResidue)
     ∷ []
 
 pub worked : map (λ (c : Case). c .given) cases ≡ map (λ (c : Case). c .stated) cases
-unfolding cases S renamed withBFactor packed unpacked withoutZeros textOf trimStart trim chainId uppercaseOr atomName matches storedBy packedText words fieldsOf goodValues goodFields goodRecord readOut flat atomCount laid layOut inOrder goodLayout sections group readStore codes nodeOf nodesOf run leavesOne readTree treeValue dropSign close termValue tables enter atomsIn atomsOf hitsIn hitsOf findRun branchAt replaceAt addModel prepare upsert addAtom machineStep stepBy storeStep storeAfter storeAnswers readInput digits printed programRun undecided ofBits sub lt
+unfolding cases S renamed withBFactor packed unpacked withoutZeros textOf trimStart trim chainId uppercaseOr atomName matches storedBy packedText words fieldsOf goodValues goodFields goodRecord readOut flat atomCount laid layOut inOrder goodLayout sections group readStore codes nodeOf nodesOf run leavesOne readTree treeValue dropSign close termValue tables enter atomsIn atomsOf hitsIn hitsOf findRun branchAt replaceAt addModel prepare upsert addPrepared machineStep stepBy storeStep storeAfter storeAnswers readInput digits printed programRun undecided ofBits sub lt
 worked = refl

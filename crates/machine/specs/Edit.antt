@@ -9,7 +9,7 @@ use lib.Dec.{leb, eqb}
 use Rattle.machine.specs.Lists.{isEmpty, filter, nth, splice, firstWhere, lastWhere, andThen, same}
 use Rattle.machine.specs.Answer.{Result, ok, refused, _>>=_, _>>_, need, ifRefused, badName, editedNumbers}
 use Rattle.machine.specs.Text.{Optional, chainId, insertionCode, conformerName, alternativeLocation, atomName, optional, goodFlag, matches, matchesOptional}
-use Rattle.machine.specs.Record.{Fields, Atom, goodValues}
+use Rattle.machine.specs.Record.{Fields, Atom, Conformer, Residue, Chain, goodValues}
 use Rattle.machine.specs.Store.{Branch, Machine, records, stored, capacity, layOut, readStore}
 use Rattle.machine.specs.Kleene.{isTrue}
 use Rattle.machine.specs.Query.{readTree, treeValue, termValue, tables}
@@ -21,6 +21,7 @@ use Rattle.machine.specs.declared.Name.the-variants.{ChainId, InsertionC
 use Rattle.machine.specs.declared.Refusal.the-variants.{NoPosition, BadValue, NoCapacity, JoinWithItself}
 use Rattle.machine.specs.declared.Edited as Edited
 use Rattle.machine.specs.declared.NewAtom.{NewAtom}
+use Rattle.machine.specs.declared.PreparedAddition.{PreparedAddition}
 
 -- ---- the calls, with their arguments other than the store
 
@@ -105,23 +106,25 @@ accept n (Stored w) = ok w
 accept n Absent = ok 0
 accept n Bad = refused (badName n)
 
--- an addition's names as they are stored
-pub record Prepare : Type 0 where
-  pub chain : ℕ
-  pub code : ℕ
-  pub conformer : ℕ
-  pub location : ℕ
-  pub name : ℕ
-
 -- "(chain, code, conformer, location, atom name)"; change request §2: "checked where 6 was checked for each"
-unfoldable pub prepare : Addition → Result Prepare
+unfoldable pub prepare : Addition → Result PreparedAddition
 prepare a = do
   chain ← accept ChainId (chainId (a .chain))
   code ← accept InsertionCode (optional insertionCode (a .code))
   conformer ← accept ConformerName (conformerName (a .conformer))
   location ← accept AlternativeLocation (optional alternativeLocation (a .location))
   name ← accept AtomName (atomName (a .name))
-  ok (record { chain = chain; code = code; conformer = conformer; location = location; name = name })
+  ok (record { chain = chain; residue = a .residue; code = code; conformer = conformer; location = location; name = name; values = a .values })
+
+-- the fields of what an addition may make anew
+abbrev pub newChain : PreparedAddition → Chain
+newChain p = record { id = p .chain }
+
+abbrev pub newResidue : PreparedAddition → Residue
+newResidue p = record { serial = p .residue; code = p .code }
+
+abbrev pub newConformer : PreparedAddition → Conformer
+newConformer p = record { name = p .conformer; location = p .location }
 
 -- the values with a stored name
 abbrev pub namedAtom : NewAtom → ℕ → Atom
@@ -139,8 +142,8 @@ namedAtom v name =
       hetero = v .hetero;
     }
 
-abbrev pub newAtom : Addition → Prepare → Atom
-newAtom a p = namedAtom (a .values) (p .name)
+abbrev pub newAtom : PreparedAddition → Atom
+newAtom p = namedAtom (p .values) (p .name)
 
 pub data Which : Type 0 where
   first last : Which
@@ -158,30 +161,31 @@ putIn (some i) f new xs = splice i (λ x. f x ∷ []) xs
 unfoldable pub upsert : (k : ℕ) → Which → (Fields (suc k) → Bool) → Fields (suc k) → (List (Branch k) → List (Branch k)) → List (Branch (suc k)) → List (Branch (suc k))
 upsert k w p new f ts = putIn (pick w (λ t. p (t .0)) ts) (λ t. (t .0, f (t .1))) (new, f []) ts
 
--- "the FIRST conformer with the raised name and equal alternative location", compared as given; "The atom is appended."
-abbrev pub intoConformers : Addition → Prepare → List (Branch 1) → List (Branch 1)
-intoConformers a p ts =
-    upsert 0 first (λ c. eqb (c .name) (p .conformer) && matchesOptional (a .location) (c .location)) (record { name = p .conformer; location = p .location })
-    (λ atoms. atoms ++ (newAtom a p ∷ []))
-    ts
+-- "the FIRST conformer with the raised name and equal alternative location"; change request §3: "look for the prepared form"; "a location that is bad or
+-- blank looks for an absent one", as it is stored as 0; "The atom is appended."
+abbrev pub intoConformers : PreparedAddition → List (Branch 1) → List (Branch 1)
+intoConformers p ts =
+    upsert 0 first (λ c. eqb (c .name) (p .conformer) && eqb (c .location) (p .location)) (newConformer p) (λ atoms. atoms ++ (newAtom p ∷ [])) ts
 
--- "the LAST residue whose serial and code equal the arguments", the code compared as given
-abbrev pub intoResidues : Addition → Prepare → List (Branch 2) → List (Branch 2)
-intoResidues a p ts =
-    upsert 1 last (λ r. eqb (r .serial) (a .residue) && matchesOptional (a .code) (r .code)) (record { serial = a .residue; code = p .code })
-    (intoConformers a p)
-    ts
+-- "the LAST residue whose serial and code equal the arguments", the code prepared
+abbrev pub intoResidues : PreparedAddition → List (Branch 2) → List (Branch 2)
+intoResidues p ts = upsert 1 last (λ r. eqb (r .serial) (p .residue) && eqb (r .code) (p .code)) (newResidue p) (intoConformers p) ts
 
 -- "the FIRST chain with the trimmed id"
-abbrev pub intoChains : Addition → Prepare → List (Branch 3) → List (Branch 3)
-intoChains a p ts = upsert 2 first (λ c. eqb (c .id) (p .chain)) (record { id = p .chain }) (intoResidues a p) ts
+abbrev pub intoChains : PreparedAddition → List (Branch 3) → List (Branch 3)
+intoChains p ts = upsert 2 first (λ c. eqb (c .id) (p .chain)) (newChain p) (intoResidues p) ts
 
-unfoldable pub addAtom : ℕ → ℕ → Addition → Machine → Result Change
-addAtom n i a m = do
+-- an atom whose names are prepared, or refused: "5", then these, then "7" and "8"
+unfoldable pub addPrepared : ℕ → ℕ → Result PreparedAddition → Machine → Result Change
+addPrepared n i prepared m = do
   t ← position (branchAt 0 4 (i ∷ []) m)
-  p ← prepare a
-  need (goodValues (newAtom a p)) BadValue
-  fits n (replaceAt 0 4 (i ∷ []) ((t .0, intoChains a p (t .1)) ∷ []) m)
+  p ← prepared
+  need (goodValues (newAtom p)) BadValue
+  fits n (replaceAt 0 4 (i ∷ []) ((t .0, intoChains p (t .1)) ∷ []) m)
+
+-- "Add atom, to a model"; change request §3: "An addition shall prepare code and alternative location first"
+abbrev pub addAtom : ℕ → ℕ → Addition → Machine → Result Change
+addAtom n i a m = addPrepared n i (prepare a) m
 
 -- ---- removals
 

@@ -9,11 +9,11 @@ use lib.Ieee.{ofBits, sub, lt}
 use Rattle.machine.specs.Lists.{bytes, concatMap}
 use Rattle.machine.specs.Answer.{Result, ok, refused, refusalNumber}
 use Rattle.machine.specs.Text.{packed, pack, unpacked, withoutZeros, textOf, trimStart, trim, chainId, uppercaseOr, atomName, alternativeLocation, insertionCode, Optional, matches, matchesOptional, storedBy, packedText, before}
-use Rattle.machine.specs.Record.{words, fieldsOf, goodValues, goodFields, goodRecord, readOut}
+use Rattle.machine.specs.Record.{Words, words, fieldsOf, goodValues, goodFields, goodRecord, readOut}
 use Rattle.machine.specs.Store.{flat, atomCount, laid, layOut, inOrder, goodLayout, sections, group, readStore, openRun}
 use Rattle.machine.specs.Query.{codes, nodeOf, nodesOf, run, leavesOne, readTree, treeValue, termValue, tables, packedName}
 use Rattle.machine.specs.Find.{enter, atomsIn, atomsOf, hitsIn, hitsOf, findRun}
-use Rattle.machine.specs.Edit.{addition, Call, AddModel, AddAtom, RemoveChain, RemoveAtom, RemoveChainById, RemoveResidueById, RemoveConformerById, RemoveAtomBySerialNumber, RemoveAtomsBy, RemoveEmpty, JoinModels, JoinResidues, branchAt, replaceAt, addModel, prepare, upsert, addAtom, removeAt, removeFirst, keepAtoms, removeAtomsBy, nonEmpty, removeEmpty, joinAt, machineStep, stepBy, storeStep, storeAfter, storeAnswers}
+use Rattle.machine.specs.Edit.{addition, Call, AddModel, AddAtom, RemoveChain, RemoveAtom, RemoveChainById, RemoveResidueById, RemoveConformerById, RemoveAtomBySerialNumber, RemoveAtomsBy, RemoveEmpty, JoinModels, JoinResidues, branchAt, replaceAt, addModel, prepare, upsert, addPrepared, removeAt, removeFirst, keepAtoms, removeAtomsBy, nonEmpty, removeEmpty, joinAt, machineStep, stepBy, storeStep, storeAfter, storeAnswers}
 use Rattle.machine.specs.Lookup.{numbered, serials, lookupIn, lookupRun}
 use Rattle.machine.specs.Program.{readInput, digits, printed, programRun}
 use Rattle.machine.specs.Cases.{record12, store, S, node, element7, found, absent, present, atom, zeros, atomRecord, file, eightBytes, Case}
@@ -70,6 +70,36 @@ twoModels = store 61 (record12 (1 ∷ 1 ∷ []) ∷ record12 (2 ∷ packedName "
 
 abbrev twoChains : List ℕ
 twoChains = store 61 (record12 (1 ∷ 1 ∷ []) ∷ record12 (2 ∷ packedName "A" ∷ []) ∷ record12 (2 ∷ packedName "A" ∷ []) ∷ [])
+
+-- two residues 7A, as a store that was lent may have them, the second with two equal conformers: the atoms of each
+abbrev twins : List Words → List Words → List ℕ
+twins first second =
+    store 133
+    (record12 (1 ∷ 1 ∷ [])
+    ∷ record12 (2 ∷ packedName "A" ∷ [])
+    ∷ record12 (3 ∷ 7 ∷ packedName "A" ∷ [])
+    ∷ record12 (4 ∷ packedName "ALA" ∷ [])
+    ∷ atomRecord 1
+    ∷ record12 (3 ∷ 7 ∷ packedName "A" ∷ [])
+    ∷ record12 (4 ∷ packedName "ALA" ∷ [])
+    ∷ first
+    ++ (record12 (4 ∷ packedName "ALA" ∷ []) ∷ second))
+
+-- residue 7 with one conformer, at this location, and two atoms
+abbrev oneConformer : ℕ → List ℕ
+oneConformer location =
+    store 97
+    (record12 (1 ∷ 1 ∷ [])
+    ∷ record12 (2 ∷ packedName "A" ∷ [])
+    ∷ record12 (3 ∷ 7 ∷ [])
+    ∷ record12 (4 ∷ packedName "ALA" ∷ location ∷ [])
+    ∷ atomRecord 1
+    ∷ atomRecord 2
+    ∷ [])
+
+-- two atoms at these locations
+abbrev twoLocations : Optional → Optional → List ℕ
+twoLocations first second = storeAfter (zeros 97) (AddModel 1 ∷ AddAtom 0 (atom 1 absent first) ∷ AddAtom 0 (atom 2 absent second) ∷ [])
 
 abbrev oneModel : List ℕ
 oneModel = store 73 (record12 (1 ∷ 1 ∷ []) ∷ [])
@@ -168,8 +198,14 @@ examples =
     ∷ example (lines (onS (RemoveConformerById 0 0 0 (bytes "ALA") (present " ") ∷ RemoveConformerById 0 0 0 (bytes "ALA") absent ∷ []))) (0 ∷ 0 ∷ 0 ∷ 0 ∷ 1 ∷ 2 ∷ [])
     ∷ example (lines (onS (RemoveAtomsBy 0 element7 ∷ RemoveAtomsBy 0 (node 3 (packedName "A") 0) ∷ RemoveAtomsBy 0 [] ∷ []))) (0 ∷ 1 ∷ 1 ∷ 0 ∷ 1 ∷ 0 ∷ 3 ∷ 0 ∷ 0 ∷ [])
     ∷ example (storeAfter S (RemoveAtom 0 0 0 0 1 ∷ RemoveAtom 0 0 0 0 0 ∷ RemoveEmpty 0 ∷ [])) oneModel
-    -- codes and locations of an addition are compared as given
-    ∷ example (lines (storeAnswers (zeros 109) (AddModel 1 ∷ AddAtom 0 (atom 1 (present "A")) ∷ AddAtom 0 (atom 2 (present " A")) ∷ AddAtom 0 (atom 3 (present "A ")) ∷ []))) (0 ∷ 1 ∷ 0 ∷ 0 ∷ 1 ∷ 0 ∷ 0 ∷ 1 ∷ 0 ∷ 8 ∷ 0 ∷ 0 ∷ [])
+    -- a code is prepared, then looked for: the last residue, the first conformer
+    ∷ example (storeAfter (twins (atomRecord 2 ∷ []) (atomRecord 3 ∷ [])) (AddAtom 0 (atom 4 (present " a") absent) ∷ [])) (twins (atomRecord 2 ∷ atomRecord 4 ∷ []) (atomRecord 3 ∷ []))
+    -- so is a location; a bad or blank one looks for an absent one
+    ∷ example (twoLocations (present "b") (present " B")) (oneConformer (packedName "B"))
+    ∷ example (twoLocations absent (present " ")) (oneConformer 0)
+    ∷ example (twoLocations absent (present "\t")) (oneConformer 0)
+    -- "Removals by id still take ids as given."
+    ∷ example (lines (storeAnswers (twins [] []) (RemoveResidueById 0 0 7 (present " A") ∷ RemoveResidueById 0 0 7 (present "a") ∷ RemoveResidueById 0 0 7 (present "A") ∷ []))) (0 ∷ 0 ∷ 0 ∷ 0 ∷ 0 ∷ 0 ∷ 0 ∷ 1 ∷ 1 ∷ [])
     -- which name was bad: each row has one bad name less, then a bad value, then no room
     ∷ example (named [] badFlag [] badFlag (127 ∷ []) 119) (6 ∷ 0 ∷ 0 ∷ [])
     ∷ example (named (bytes "A") badFlag [] badFlag (127 ∷ []) 119) (14 ∷ 0 ∷ 0 ∷ [])
@@ -198,7 +234,7 @@ examples =
     ∷ []
 
 pub shown : map (λ (c : Case). c .given) examples ≡ map (λ (c : Case). c .stated) examples
-unfolding examples serialStore S packed unpacked withoutZeros textOf trimStart trim chainId uppercaseOr atomName matches storedBy packedText words fieldsOf goodValues goodFields goodRecord readOut flat atomCount laid layOut inOrder goodLayout sections group readStore openRun codes nodeOf nodesOf run leavesOne readTree treeValue termValue tables enter atomsIn atomsOf hitsIn hitsOf findRun branchAt replaceAt addModel prepare upsert addAtom removeAt removeFirst keepAtoms removeAtomsBy nonEmpty removeEmpty joinAt machineStep stepBy storeStep storeAfter storeAnswers numbered serials lookupIn lookupRun readInput digits printed programRun ofBits sub lt before
+unfolding examples serialStore S packed unpacked withoutZeros textOf trimStart trim chainId uppercaseOr atomName matches storedBy packedText words fieldsOf goodValues goodFields goodRecord readOut flat atomCount laid layOut inOrder goodLayout sections group readStore openRun codes nodeOf nodesOf run leavesOne readTree treeValue termValue tables enter atomsIn atomsOf hitsIn hitsOf findRun branchAt replaceAt addModel prepare upsert addPrepared removeAt removeFirst keepAtoms removeAtomsBy nonEmpty removeEmpty joinAt machineStep stepBy storeStep storeAfter storeAnswers numbered serials lookupIn lookupRun readInput digits printed programRun ofBits sub lt before
 shown = refl
 
 -- "over 65,536 bytes": the next multiple of 8 is refused

@@ -128,6 +128,17 @@ pub struct NewAtom {
     pub hetero: u64,
 }
 
+// An atom to add: the ids of what it is put under and its name, as they are stored, and its values.
+pub struct PreparedAddition {
+    pub chain: u64,
+    pub residue: u64,
+    pub code: u64,
+    pub conformer: u64,
+    pub location: u64,
+    pub name: u64,
+    pub values: NewAtom,
+}
+
 // An identifier made ready for the store.
 pub enum Prepared {
     Stored(u64),

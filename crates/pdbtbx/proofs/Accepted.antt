@@ -2,7 +2,7 @@
 use Prim.Native.Nat.{ℕ, zero, suc, _≤_}
 use mathlib.Core.Path.{_≡_, refl, sym, ap, _∙_}
 use mathlib.Core.Bool.{Bool, true, false, not, _&&_, cond, false≢true}
-use mathlib.Core.List.{[], map}
+use mathlib.Core.List.{map}
 use mathlib.Core.Option.{none, some, Option·map}
 use native.Mathlib.Omega.{arith}
 use lib.ListN.{length, length-map}
@@ -12,26 +12,28 @@ use Rattle.machine.specs.Lists.{isEmpty, all}
 use Rattle.machine.specs.Answer.{Result, ok, refused, _>>=_}
 use Rattle.machine.specs.Text.{optionalOf, optional, pack, plain, toUpper, trim, fit, chainId, uppercaseOr, insertionCode, conformerName, alternativeLocation, atomName}
 use Rattle.machine.specs.Record.{finite, goodValues}
-use Rattle.machine.specs.Edit.{Addition, accept, prepare, newAtom, Prepare}
+use Rattle.machine.specs.Edit.{Addition, accept, prepare, newAtom}
 use Rattle.machine.specs.declared.Name.{Name}
 use Rattle.machine.specs.declared.Name.the-variants.{ChainId, InsertionCode, ConformerName, AlternativeLocation, AtomName}
 use Rattle.machine.specs.declared.Prepared.the-variants.{Stored, Absent, Bad}
+use Rattle.machine.specs.declared.PreparedAddition.{PreparedAddition}
 use Rattle.machine.specs.declared.Refusal.{Refusal}
 use Rattle.laws.specs.Lists.{and-both}
 use Rattle.laws.specs.Text.{trim-twice}
 use Rattle.pdbtbx.specs.Std.{Text, toUppercase}
-use Rattle.pdbtbx.specs.Structs.{Struct, validIdentifier, prepareIdentifier, prepareIdentifierUppercase}
-use Rattle.pdbtbx.specs.Edits.{residueNew}
-use Rattle.pdbtbx.specs.Calls.{present}
+use Rattle.pdbtbx.specs.Structs.{validIdentifier, prepareIdentifier, prepareIdentifierUppercase}
 use Rattle.pdbtbx.specs.Demand.{Short, Fitting, Flagged, Domain}
-use Rattle.pdbtbx.proofs.Names.{valid-plain, chained, uppercaseOr-ready, named, located}
-use Rattle.pdbtbx.proofs.Additions.{floats, Ready, coded}
+use Rattle.pdbtbx.proofs.Names.{valid-plain, chained, uppercaseOr-ready, named, absent, raised, located}
+use Rattle.pdbtbx.proofs.Additions.{Coded, floats, Ready}
 
 -- ---- results
 
 pub bind-ok : {A B : Type 0} (r : Result A) (f : A → Result B) (y : B) → (r >>= f) ≡ ok y → (x : A) × (r ≡ ok x) × (f x ≡ ok y)
 bind-ok (ok x) f y h = (x, refl, h)
 bind-ok (refused c) f y h = let z : _≡_ {A = ℕ} 0 1 = cc in absurd (omega arith)
+
+same-ok : {A : Type 0} (x y : A) → _≡_ {A = Result A} (ok x) (ok y) → x ≡ y
+same-ok x y h = cc
 
 bad-not : {A : Type 0} (c : Refusal) (x : A) → _≡_ {A = Result A} (refused c) (ok x) → ⊥
 bad-not c x h = let z : _≡_ {A = ℕ} 0 1 = cc in absurd (omega arith)
@@ -95,15 +97,14 @@ module _ (w : ℕ) where
       go u e false f k = absurd (unprepared t u f e)
   location-met (suc (suc n)) t h = absurd (bad-not _ w h)
 
-  code-met : (serial flag : ℕ) (t : Text) → accept InsertionCode (optional insertionCode (optionalOf flag t)) ≡ ok w → Flagged flag (Short t) × ((new : Struct 2) × (residueNew serial (present flag t) ≡ some new))
-  unfolding residueNew
-  code-met serial zero t h = (tt, (_, refl))
-  code-met serial (suc zero) t h = let m = uppercaseOr-met InsertionCode t h in (m .0, ((record { serial = serial; code = some (toUppercase (trim t)) }, []), rw (m .1)))
-  code-met serial (suc (suc n)) t h = absurd (bad-not _ w h)
+  code-met : (flag : ℕ) (t : Text) → accept InsertionCode (optional insertionCode (optionalOf flag t)) ≡ ok w → Flagged flag (Short t) × Coded (optionalOf flag t)
+  code-met zero t h = (tt, absent)
+  code-met (suc zero) t h = let m = uppercaseOr-met InsertionCode t h in (m .0, rw (m .1) (raised InsertionCode Bad t _ (m .0) (m .1)))
+  code-met (suc (suc n)) t h = absurd (bad-not _ w h)
 
 -- ---- an addition that is accepted
 
-module _ (a : Addition) (p : Prepare) (h : prepare a ≡ ok p) (g : goodValues (newAtom a p) ≡ true) where
+module _ (a : Addition) (p : PreparedAddition) (h : prepare a ≡ ok p) (g : goodValues (newAtom p) ≡ true) where
   pub record Fine : Type 0 where
     pub domain : Domain a
     pub ready : Ready a
@@ -117,18 +118,18 @@ module _ (a : Addition) (p : Prepare) (h : prepare a ≡ ok p) (g : goodValues (
       let l = bind-ok (accept AlternativeLocation (optional alternativeLocation (a .location))) _ p (f .2) in
       let n = bind-ok (accept AtomName (atomName (a .name))) _ p (l .2) in
       let cm = chain-met (c .0) (a .chain) (c .1) in
-      let im = code-met (i .0) (a .residue) (a .code .flag) (a .code .text) (i .1) in
+      let im = code-met (i .0) (a .code .flag) (a .code .text) (i .1) in
       let fm = uppercaseOr-met (f .0) ConformerName (a .conformer) (f .1) in
       let lm = location-met (l .0) (a .location .flag) (a .location .text) (l .1) in
       let nm = name-met (n .0) (a .name) (n .1) in
-      let v = and-both (all finite (floats a) && leb (a .values .element) 118) (leb (a .values .hetero) 1) g in
+      let v = and-both (all finite (floats a) && leb (a .values .element) 118) (leb (a .values .hetero) 1) (ap (λ (q : PreparedAddition). goodValues (newAtom q)) (same-ok _ p (n .2)) ∙ g) in
       let u = and-both (all finite (floats a)) (leb (a .values .element) 118) (v .0) in
       record {
         domain = record { chain = cm .0; code = im .0; conformer = fm .0; location = lm; name = nm .0; element = leb-true (a .values .element) 118 (u .1); hetero = leb-true (a .values .hetero) 1 (v .1) };
         ready =
             record {
               chain = chained (a .chain) _ (cm .0) (cm .1);
-              code = coded (a .residue) (a .code .flag) (a .code .text) (im .1 .0) (im .0) (im .1 .1);
+              code = im .1;
               conformer = uppercaseOr-ready (a .conformer) _ (fm .0) (fm .1);
               location = located (a .location .flag) (a .location .text) lm;
               name = named (a .name) (nm .0) (nm .1);

@@ -170,18 +170,18 @@ module _ (n : ℕ) (m : Machine) (good : all (goodBranch 4) m ≡ true) where
   by-position c d r = record { domain = d; result = r .0; taken = r .1 }
 
   pub no-panic : (c : Call) (ch : Change) → machineStep n m c ≡ ok ch → Taken m c
-  unfolding edit machineStep addModel addAtom Plain.addAtom branchAt structOf Plain.removeAtomsBy Plain.removeEmpty
+  unfolding edit machineStep addModel addAtom Plain.addPrepared branchAt structOf Plain.removeAtomsBy Plain.removeEmpty
   no-panic (AddModel serial) ch h = record { domain = tt; result = _; taken = refl }
   no-panic (AddAtom i a) ch h =
       let s = bind-ok (position (branchAt 0 4 (i ∷ []) m)) _ ch h in
       let p = bind-ok (prepare a) _ ch (s .2) in
-      let v = then-ok (need (goodValues (newAtom a (p .0))) BadValue) _ ch (p .2) in
-      let y = fine a (p .0) (p .1) (need-ok (goodValues (newAtom a (p .0))) _ (v .0) (v .1)) in
-      let t′ : Branch 4 = (s .0 .0, intoChains a (words a (y .domain) (y .ready)) (s .0 .1)) in
+      let v = then-ok (need (goodValues (newAtom (p .0))) BadValue) _ ch (p .2) in
+      let y = fine a (p .0) (p .1) (need-ok (goodValues (newAtom (p .0))) _ (v .0) (v .1)) in
+      let t′ : Branch 4 = (s .0 .0, intoChains (words a (y .domain) (y .ready)) (s .0 .1)) in
       record {
         domain = y .domain;
         result = (true, pdbOf (splice i (λ x. t′ ∷ []) m));
-        taken = rw (atom-new a (y .domain) (y .ready)) (at-map (structOf 4) (onModel i a (atom a (y .domain) (y .ready))) i m (s .0) t′ true (position-ok (nth i m) (s .0) (s .1)) (into-model a (y .domain) (y .ready) (s .0)));
+        taken = rw (atom-new a (y .domain) (y .ready)) (at-map (structOf 4) (onModel a (atom a (y .domain) (y .ready))) i m (s .0) t′ true (position-ok (nth i m) (s .0) (s .1)) (into-model a (y .domain) (y .ready) (s .0)));
       }
   no-panic (RemoveChain i c) ch h = by-position (RemoveChain i c) tt (removes 1 3 (i ∷ c ∷ []) m _ (bind-ok (Plain.removeAt 1 3 (i ∷ c ∷ []) m) _ ch h .1))
   no-panic (RemoveResidue i c r) ch h = by-position (RemoveResidue i c r) tt (removes 2 2 (i ∷ c ∷ r ∷ []) m _ (bind-ok (Plain.removeAt 2 2 (i ∷ c ∷ r ∷ []) m) _ ch h .1))

@@ -11,7 +11,7 @@ use Rattle.machine.specs.Text.{packed, unpacked, withoutZeros, textOf, trimStar
 use Rattle.machine.specs.Record.{words, fieldsOf, goodValues, goodFields, goodRecord}
 use Rattle.machine.specs.Store.{Machine, flat, laid, layOut, inOrder, goodLayout, sections, group, readStore}
 use Rattle.machine.specs.Query.{packedName, codes, nodeOf, nodesOf, run, leavesOne, readTree}
-use Rattle.machine.specs.Cases.{store, S, renamed, withBFactor, node, element7, notElement7, bFactor, threeAtoms, twoResidues}
+use Rattle.machine.specs.Cases.{store, S, renamed, withBFactor, node, element7, notElement7, bFactor, threeAtoms, oneResidue}
 use Rattle.pdbtbx.specs.Std.{abs, withinEpsilon, at, onCurrent}
 use Rattle.pdbtbx.specs.Structs.{PDB, prepareIdentifier, prepareIdentifierUppercase}
 use Rattle.pdbtbx.specs.Words.{saysOf, structOf, pdbOf, fieldsFrom, branchFrom, machineFrom}
@@ -39,6 +39,6 @@ left n (some q) = layOut n (machineFrom (q .1))
 pub worked : found S element7 ∷ found S notElement7 ∷ found S (node 14 (packedName "N") 0 ++ element7 ++ node 23 0 0) ∷ found S (element7 ++ element7 ++ node 25 0 0) ∷ found S (node 20 0 0)
     ∷ found S (node 21 0 0) ∷ found renamed (node 20 0 0) ∷ found renamed (node 21 0 0) ∷ found (withBFactor 0x3fe0_0000_0000_0000) (bFactor 0x3fe0_0000_0000_0001)
     ∷ found (withBFactor 0x3ff0_0000_0000_0000) (bFactor 0x3ff0_0000_0000_0001) ∷ found (withBFactor 0x3cb0_0000_0000_0000) (bFactor 0x3370_0000_0000_0000) ∷ left 121 (edits threeAtoms []) ∷ []
-    ≡ (4 ∷ 5 ∷ []) ∷ (5 ∷ []) ∷ (4 ∷ []) ∷ (5 ∷ []) ∷ (4 ∷ []) ∷ (5 ∷ []) ∷ [] ∷ [] ∷ (4 ∷ []) ∷ [] ∷ [] ∷ store 121 twoResidues ∷ []
+    ≡ (4 ∷ 5 ∷ []) ∷ (5 ∷ []) ∷ (4 ∷ []) ∷ (5 ∷ []) ∷ (4 ∷ []) ∷ (5 ∷ []) ∷ [] ∷ [] ∷ (4 ∷ []) ∷ [] ∷ [] ∷ store 121 oneResidue ∷ []
 unfolding S renamed withBFactor packed unpacked withoutZeros textOf trimStart trim chainId uppercaseOr atomName storedBy packedText words fieldsOf goodValues goodFields goodRecord flat laid layOut inOrder goodLayout sections group readStore codes nodeOf nodesOf run leavesOne readTree ofBits sub lt abs withinEpsilon at onCurrent prepareIdentifier prepareIdentifierUppercase saysOf structOf fieldsFrom branchFrom complete simplify addInfo AMINO-ACIDS BACKBONE-NAMES optionalMatches matchesAt find countOf item findBelow atomNew conformerNew residueNew chainNew residueAddAtom chainAddAtom modelAddAtom addAtom addModel push build searchOf edit edits xor
 worked = refl

@@ -9,9 +9,10 @@ use lib.ListN.{length, length-map}
 use lib.Dec.{leb, ltb, eqb}
 use borrow.Author.Tests.{leb-true, ltb-true, eqb-true, eqb-false, ne-eqb, le-leb, lt-ltb}
 use Rattle.machine.specs.Lists.{isEmpty, all, same, andThen}
-use Rattle.machine.specs.Answer.{ok}
+use Rattle.machine.specs.Answer.{Result, ok}
 use Rattle.machine.specs.Text.{Optional, optionalOf, optional, pack, packed, unpacked, withoutZeros, textOf, plain, toUpper, trim, fit, chainId, uppercaseOr, alternativeLocation, atomName, matches, matchesOptional}
 use Rattle.machine.specs.Edit.{accept}
+use Rattle.machine.specs.declared.Name.{Name}
 use Rattle.machine.specs.declared.Name.the-variants.{AlternativeLocation}
 use Rattle.machine.specs.declared.Prepared.{Prepared}
 use Rattle.machine.specs.declared.Prepared.the-variants.{Stored, Absent}
@@ -21,8 +22,8 @@ use Rattle.laws.specs.Text.{trim-twice, all-trim, all-toUpper, trim-toUpper, ma
 use Rattle.pdbtbx.specs.Std.{Text, toUppercase, sameOption}
 use Rattle.pdbtbx.specs.Structs.{checkChar, validIdentifier, prepareIdentifier, prepareIdentifierUppercase}
 use Rattle.pdbtbx.specs.Words.{string, optionString}
-use Rattle.pdbtbx.specs.Calls.{present, optionOf}
-use Rattle.pdbtbx.specs.Demand.{Fitting, Flagged}
+use Rattle.pdbtbx.specs.Calls.{present, preparedLocation}
+use Rattle.pdbtbx.specs.Demand.{Short, Fitting, Flagged}
 
 check-plain : (b : ℕ) → checkChar b ≡ plain b
 check-plain b =
@@ -158,23 +159,36 @@ named t l h =
       text = textOf-pack (toUppercase (trim t)) (omega (arith, length-map (trim t) toUpper)) (all-toUpper (trim t) ∙ p) ∙ ap toUppercase (sym (trim-twice t));
     }
 
--- ---- locations: a bad or blank one is absent
+-- ---- codes and locations: the crate is given the text of the word that is stored, which it prepares to itself
 
-pub record Located (o : Optional) : Type 0 where
+pub record Given (stored : Result ℕ) (o : Option Text) : Type 0 where
   pub word : ℕ
-  pub accepted : accept AlternativeLocation (optional alternativeLocation o) ≡ ok word
-  pub text : andThen (optionOf o) prepareIdentifierUppercase ≡ optionString word
+  pub accepted : stored ≡ ok word
+  pub text : o ≡ optionString word
+  pub again : andThen (optionString word) prepareIdentifierUppercase ≡ optionString word
+
+pub absent : Given (ok 0) none
+absent = record { word = 0; accepted = refl; text = refl; again = refl }
+
+pub raised : (n : Name) (other : Prepared) (t u : Text) → Short t → prepareIdentifierUppercase t ≡ some u → Given (accept n (uppercaseOr t other)) (some u)
+raised n other t u s e =
+    let r = uppercaseOr-ready t u s e in
+    record { word = r .word; accepted = rw (r .stored other); text = sym e ∙ r .text ∙ sym (r .present); again = rw (r .present) (r .again) }
+
+-- a bad or blank location is absent
+abbrev pub Located : Optional → Type 0
+Located o = Given (accept AlternativeLocation (optional alternativeLocation o)) (preparedLocation o)
 
 pub located : (flag : ℕ) (t : Text) → Flagged flag (Fitting t) → Located (optionalOf flag t)
-located zero t s = record { word = 0; accepted = refl; text = refl }
+located zero t s = absent
 located (suc zero) t s = go (prepareIdentifierUppercase t) refl
   where
-    go : (p : Option Text) → prepareIdentifierUppercase t ≡ p → Located (optionalOf 1 t)
-    go none e = record { word = 0; accepted = rw (uppercaseOr-none t Absent e); text = e }
-    go (some u) e = let r = uppercaseOr-ready t u (s u e) e in record { word = r .word; accepted = rw (r .stored Absent); text = r .text ∙ sym (r .present) }
+    go : (p : Option Text) → prepareIdentifierUppercase t ≡ p → Given (accept AlternativeLocation (alternativeLocation t)) p
+    go none e = rw (uppercaseOr-none t Absent e) absent
+    go (some u) e = raised AlternativeLocation Absent t u (s u e) e
 located (suc (suc n)) t s = absurd s
 
--- a code as given, beside one that is stored
+-- a text as given, beside one that is stored
 same-swap : (s t : Text) → same s t ≡ same t s
 same-swap s t = both-ways (same s t) (same t s) (λ h. rw (same-true s t h) (same-refl t)) (λ h. rw (same-true t s h) (same-refl s))
 

@@ -2,7 +2,7 @@
 use Prim.Native.Nat.{ℕ, zero, suc}
 use mathlib.Core.Bool.{Bool, true, false, _&&_}
 use mathlib.Core.List.{List, [], _∷_}
-use mathlib.Core.Option.{Option, none, some}
+use mathlib.Core.Option.{Option, none, some, Option·map}
 use lib.Dec.{eqb}
 use Rattle.machine.specs.Lists.{same, andThen}
 use Rattle.machine.specs.Answer.{Result, ok, refused}
@@ -13,7 +13,7 @@ use Rattle.machine.specs.declared.Term.{Term}
 use Rattle.machine.specs.declared.Node.{Node}
 use Rattle.machine.specs.declared.Node.the-variants as Nodes
 use Rattle.pdbtbx.specs.Std.{Text, sameOption, Answer}
-use Rattle.pdbtbx.specs.Structs.{Atom, Struct, PDB}
+use Rattle.pdbtbx.specs.Structs.{Atom, Struct, PDB, prepareIdentifierUppercase}
 use Rattle.pdbtbx.specs.Words.{optionElement}
 use Rattle.pdbtbx.specs.Search.{Search, Operator, Not, Single, Known, isKnown, complete, addInfo}
 use Rattle.pdbtbx.specs.Matches.{matchesAt}
@@ -29,14 +29,26 @@ present (suc n) t = some t
 abbrev pub optionOf : Optional → Option Text
 optionOf o = present (o .flag) (o .text)
 
+-- change request §3: "The oracle is from now on given prepared codes and locations." A code that can't be prepared is given as it is, which is a panic
+abbrev pub orGiven : Text → Option Text → Text
+orGiven t none = t
+orGiven t (some u) = u
+
+abbrev pub preparedCode : Optional → Option Text
+preparedCode o = Option·map (λ t. orGiven t (prepareIdentifierUppercase t)) (optionOf o)
+
+-- "a location that is bad or blank looks for an absent one"
+abbrev pub preparedLocation : Optional → Option Text
+preparedLocation o = andThen (optionOf o) prepareIdentifierUppercase
+
 abbrev pub argumentsOf : Addition → Arguments
 argumentsOf a =
     record {
       chain = a .chain;
       residue = a .residue;
-      code = optionOf (a .code);
+      code = preparedCode (a .code);
       conformer = a .conformer;
-      location = optionOf (a .location);
+      location = preparedLocation (a .location);
       hetero = eqb (a .values .hetero) 1;
       serial = a .values .serial;
       name = a .name;

@@ -27,7 +27,8 @@ use Rattle.machine.specs.Edit.{
   JoinResidues,
   JoinConformers,
   addModel,
-  addAtom,
+  prepare,
+  addPrepared,
   removeAtomsBy,
   removeEmpty,
   machineStep,
@@ -38,6 +39,7 @@ use Rattle.machine.specs.Lookup.{lookupRun}
 use Rattle.machine.specs.declared.Refusal.{Refusal}
 use Rattle.machine.specs.declared.Edited as Edited
 use Rattle.machine.specs.declared.LookedUp as LookedUp
+use Rattle.machine.specs.declared.PreparedAddition.{PreparedAddition}
 use Rattle.store.specs.Store.{checkedBy}
 use Rattle.store.proofs.Laws.{refused-step, refused-lookup}
 use Rattle.store.specs.declared.Checked as Checked
@@ -73,9 +75,9 @@ module _ {x : List ℕ × List ℕ} (w : List ℕ) (i c r f a : ℕ) where
   unfolding storeStep machineStep
   model-added e = e
 
-  pub atom-added : (new : Addition) → x ≡ stepBy w (addAtom (length w) i new) → x ≡ storeStep w (AddAtom i new)
+  pub atom-added : (new : Addition) (p : Result PreparedAddition) → p ≡ prepare new → x ≡ stepBy w (addPrepared (length w) i p) → x ≡ storeStep w (AddAtom i new)
   unfolding storeStep machineStep
-  atom-added new e = e
+  atom-added new p d e = e ∙ rw d
 
   pub chain-removed : x ≡ stepBy w (removal (i ∷ c ∷ [])) → x ≡ storeStep w (RemoveChain i c)
   unfolding storeStep machineStep

@@ -29,19 +29,20 @@ pub fn add_atom(
     let checked = store::check(store);
     match checked {
         Checked::Refused(refusal) => Edited::Refused(refusal),
-        Checked::Good(_atoms) => additions::add_atom(
-            store,
-            model,
-            chain,
-            residue,
-            code_flag,
-            code,
-            conformer,
-            location_flag,
-            location,
-            name,
-            values,
-        ),
+        Checked::Good(_atoms) => {
+            let prepared = additions::prepare(
+                chain,
+                residue,
+                code_flag,
+                code,
+                conformer,
+                location_flag,
+                location,
+                name,
+                values,
+            );
+            additions::add_atom(store, model, prepared)
+        }
     }
 }
 

@@ -1,4 +1,4 @@
--- `additions::add_atom` meets its contract, by that of `add_atom_at`. Assumes nothing.
+-- `additions::add_atom` meets its contract, by that of `add_prepared`. Assumes nothing.
 use Rattle.insertion.proofs.PointsInto.{nowhere-known}
 use borrow.Author.Needs.{needs}
 use Rattle.additions.proofs.add_atom.Statement.{statement}
@@ -7,8 +7,8 @@ use Rattle.additions.proofs.add_atom.Tie as tie
 no-cursor-requires : tie.Need-no-cursor-requires
 no-cursor-requires c κs = search needs
 
-add-atom-at-requires : tie.Need-add-atom-at-requires
-add-atom-at-requires c κs = search (needs, nowhere-known)
+add-prepared-requires : tie.Need-add-prepared-requires
+add-prepared-requires c κs = search (needs, nowhere-known)
 
 same-length : tie.Need-same-length
 same-length c = search needs
@@ -17,4 +17,4 @@ returns : tie.Need-returns
 returns c = search needs
 
 pub add-atom-spec : {M : Type 1} → statement M
-add-atom-spec = tie.close (tie.spec no-cursor-requires add-atom-at-requires same-length returns)
+add-atom-spec = tie.close (tie.spec no-cursor-requires add-prepared-requires same-length returns)

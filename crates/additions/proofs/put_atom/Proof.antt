@@ -1,6 +1,5 @@
 -- `additions::put_atom` meets its contract: each return is a law's. Assumes nothing.
-use Rattle.machine.specs.Text.{optionalOf}
-use Rattle.additions.proofs.Laws.{good-length, good-count, chains-within, model-few, atom-at, atom-room, atom-full, atom-done, atom-moved}
+use Rattle.additions.proofs.Laws.{good-length, good-count, chains-within, model-few, atom-room, atom-full, atom-done}
 use native.Mathlib.Omega.{arith}
 use borrow.Author.Needs.{needs}
 use Rattle.additions.proofs.put_atom.Statement.{statement}
@@ -16,12 +15,12 @@ mul-first : tie.Need-mul-first
 mul-first c = search needs
 
 capacity-of-requires : tie.Need-capacity-of-requires
-capacity-of-requires c κs = good-length _ (c .before .before .before .before .before .before .before .before .before .pre .0)
+capacity-of-requires c κs = search (needs, good-length)
 
 add-if1 : tie.Need-add-if1
 add-if1 c =
-    let s = c .before .before .before in
-    omega (arith, good-count _ (s .before .before .before .before .before .before .before .pre .0), s .before .before .record-count .ensures)
+    let n = c .before .before .before .before .before in
+    omega (arith, good-count _ (n .before .before .before .pre .0), n .record-count .ensures)
 
 sub-if1 : tie.Need-sub-if1
 sub-if1 c = search needs
@@ -31,10 +30,10 @@ same-length c = search needs
 
 returns : tie.Need-returns
 returns c =
-    let s = c .before .before .before .before .before in
-    let i = s .before .before .before .before .before .before .before in
-    let A = i .args in
-    (i .pre .1 .0, atom-full _ (i .pre .0) (A .model) _ _ (i .pre .1 .1) (A .residue) (optionalOf (A .code-flag) (A .code .now)) (optionalOf (A .location-flag) (A .location .now)) (A .values) (A .names) _ (s .spot-of .ensures .0) (s .spot-of .ensures .1) _ (s .before .before .record-count .ensures) _ (c .before .before .capacity-of .ensures) (c .if1 .taken))
+    let t = c .before .before .before .before .before in
+    let n = t .before .before in
+    let i = n .before .before .before in
+    (i .pre .1 .0, atom-full _ (i .pre .0) (i .args .model) _ _ (i .pre .1 .1 .0) (i .args .new) (i .pre .1 .1 .1) _ (t .spot-of .ensures .0) (t .spot-of .ensures .1) _ (n .record-count .ensures) _ (c .before .before .capacity-of .ensures) (c .if1 .taken))
 
 column-of-requires : tie.Need-column-of-requires
 column-of-requires c κs = search needs
@@ -53,27 +52,27 @@ part-put-records-end c = search needs
 
 put-records-requires : tie.Need-put-records-requires
 put-records-requires c κs =
-    let s = c .before .before .before .before .before .before .before .before .before in
-    let i = s .before .before .before .before .before .before .before in
-    let A = i .args in
-    (atom-at _ (i .pre .0) (A .model) _ _ (i .pre .1 .1) (A .residue) (optionalOf (A .code-flag) (A .code .now)) (optionalOf (A .location-flag) (A .location .now)) (A .values) (A .names) _ (s .spot-of .ensures .0) (s .spot-of .ensures .1) _ (s .before .before .record-count .ensures), atom-room _ (i .pre .0) (A .model) _ _ (i .pre .1 .1) (A .residue) (optionalOf (A .code-flag) (A .code .now)) (optionalOf (A .location-flag) (A .location .now)) (A .values) (A .names) _ (s .spot-of .ensures .0) (s .spot-of .ensures .1) _ (s .before .before .record-count .ensures) _ (c .before .before .before .before .before .before .capacity-of .ensures) (c .before .before .before .before .if1 .left) _)
+    let t = c .before .before .before .before .before .before .before .before .before in
+    let n = t .before .before in
+    let i = n .before .before .before in
+    atom-room _ (i .pre .0) (i .args .model) _ _ (i .pre .1 .1 .0) (i .args .new) (i .pre .1 .1 .1) _ (t .spot-of .ensures .0) (t .spot-of .ensures .1) _ (n .record-count .ensures) _ (c .before .before .before .before .before .before .capacity-of .ensures) (c .before .before .before .before .if1 .left) _
 
 advanced-requires : tie.Need-advanced-requires
 advanced-requires c κs =
-    let s = c .before .before .before .before .before .before .before .before .before .before .before .before in
-    let i = s .before .before .before .before .before .before .before in
-    let A = i .args in
-    (model-few _ (i .pre .0) (A .model) _ _ (i .pre .1 .1), s .spot-of .ensures .1 .within, s .spot-of .ensures .1 .depth)
+    let t = c .before .before .before .before .before .before .before .before .before .before .before .before in
+    let n = t .before .before in
+    let i = n .before .before .before in
+    (model-few _ (i .pre .0) (i .args .model) _ _ (i .pre .1 .1 .0), t .spot-of .ensures .1 .within, t .spot-of .ensures .1 .depth)
 
 same-length-2 : tie.Need-same-length-2
 same-length-2 c = search needs
 
 returns-2 : tie.Need-returns-2
 returns-2 c =
-    let s = c .before .before .before .before .before .before .before .before .before .before .before .before .before in
-    let i = s .before .before .before .before .before .before .before in
-    let A = i .args in
-    (atom-moved _ (i .pre .0) (A .model) _ _ (i .pre .1 .1) (A .residue) (optionalOf (A .code-flag) (A .code .now)) (optionalOf (A .location-flag) (A .location .now)) (A .values) (A .names) _ (s .spot-of .ensures .0) (s .spot-of .ensures .1) _ (s .before .before .record-count .ensures) _ (c .before .before .before .before .before .before .before .before .before .before .capacity-of .ensures) (c .before .before .before .before .before .before .before .before .if1 .left) _ _ (c .before .before .before .before .before .before .before .column-of .ensures) (c .before .before .before .put-records .ensures) (A .cursor) _ (i .pre .1 .0) (c .advanced .ensures), atom-done _ (i .pre .0) (A .model) _ _ (i .pre .1 .1) (A .residue) (optionalOf (A .code-flag) (A .code .now)) (optionalOf (A .location-flag) (A .location .now)) (A .values) (A .names) _ (s .spot-of .ensures .0) (s .spot-of .ensures .1) _ (s .before .before .record-count .ensures) _ (c .before .before .before .before .before .before .before .before .before .before .capacity-of .ensures) (c .before .before .before .before .before .before .before .before .if1 .left) _ _ (c .before .before .before .before .before .before .before .column-of .ensures) (c .before .before .before .put-records .ensures))
+    let t = c .before .before .before .before .before .before .before .before .before .before .before .before .before in
+    let n = t .before .before in
+    let i = n .before .before .before in
+    atom-done _ (i .pre .0) (i .args .model) _ _ (i .pre .1 .1 .0) (i .args .new) (i .pre .1 .1 .1) _ (t .spot-of .ensures .0) (t .spot-of .ensures .1) _ (n .record-count .ensures) _ (c .before .before .before .before .before .before .before .before .before .before .capacity-of .ensures) (c .before .before .before .before .before .before .before .before .if1 .left) _ _ (c .before .before .before .before .before .before .before .column-of .ensures) (c .before .before .before .put-records .ensures) (i .args .cursor) _ (i .pre .1 .0) (c .advanced .ensures)
 
 pub put-atom-spec : {M : Type 1} → statement M
 put-atom-spec =

@@ -1,16 +1,15 @@
 -- `insertion::find_child` meets its contract. The loop keeps `Searched`, and the records left fall. Assumes nothing.
 use Prim.Native.Nat.{_-_}
-use Rattle.insertion.specs.Pick.{keyOf}
 use Rattle.insertion.proofs.Laws.{Searched, search-begin, search-pass, search-on, search-hit, search-end}
 use borrow.Author.Needs.{needs}
 use Rattle.insertion.proofs.find_child.Statement.{statement}
 use Rattle.insertion.proofs.find_child.Tie as tie
 
 abbrev Inv-loop : tie.InvT-loop
-Inv-loop store from end kind last word flag text best₀ at₀ best at = Searched store from end kind (keyOf last word flag text) at best
+Inv-loop store from end key best₀ at₀ best at = Searched store from end key at best
 
 abbrev μ-loop : tie.MeasureT-loop
-μ-loop store from end kind last word flag text best₀ at₀ best at = end - at
+μ-loop store from end key best₀ at₀ best at = end - at
 
 loop-holds : tie.Need-loop-holds Inv-loop μ-loop
 loop-holds c = search (needs, search-begin)

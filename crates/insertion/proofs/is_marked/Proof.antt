@@ -1,5 +1,5 @@
 -- `insertion::is_marked` goes by the first three words of a record. Assumes nothing.
-use Rattle.insertion.proofs.Laws.{unmarked-kind, unmarked-word, marked}
+use Rattle.insertion.proofs.Laws.{unmarked-kind, unmarked-first, marked}
 use borrow.Author.Needs.{needs}
 use Rattle.insertion.proofs.is_marked.Statement.{statement}
 use Rattle.insertion.proofs.is_marked.Tie as tie
@@ -29,22 +29,19 @@ shared-slice-read-if2 : tie.Need-shared-slice-read-if2
 shared-slice-read-if2 c = search needs
 
 returns-2 : tie.Need-returns-2
-returns-2 c = search (needs, unmarked-word)
+returns-2 c = search (needs, unmarked-first)
 
-mul-same-optional : tie.Need-mul-same-optional
-mul-same-optional c = search needs
+mul-result : tie.Need-mul-result
+mul-result c = search needs
 
-add-same-optional : tie.Need-add-same-optional
-add-same-optional c = search needs
+add-result : tie.Need-add-result
+add-result c = search needs
 
-mul-same-optional-2 : tie.Need-mul-same-optional-2
-mul-same-optional-2 c = search needs
+mul-result-2 : tie.Need-mul-result-2
+mul-result-2 c = search needs
 
-shared-slice-read-same-optional : tie.Need-shared-slice-read-same-optional
-shared-slice-read-same-optional c = search needs
-
-same-optional-requires : tie.Need-same-optional-requires
-same-optional-requires c κs = search needs
+shared-slice-read-result : tie.Need-shared-slice-read-result
+shared-slice-read-result c = search needs
 
 returns-3 : tie.Need-returns-3
 returns-3 c = search (needs, marked)
@@ -62,9 +59,8 @@ is-marked-spec =
     mul-if2-2
     shared-slice-read-if2
     returns-2
-    mul-same-optional
-    add-same-optional
-    mul-same-optional-2
-    shared-slice-read-same-optional
-    same-optional-requires
+    mul-result
+    add-result
+    mul-result-2
+    shared-slice-read-result
     returns-3)

@@ -1,7 +1,6 @@
 -- `insertion::pick_child` meets its contract, by what `find_child` and `end_of` ensure. Assumes nothing.
 use Rattle.insertion.proofs.Laws.{pick-missing, pick-after, pick-is}
 use native.Mathlib.Omega.{arith}
-use Rattle.insertion.specs.Pick.{keyOf}
 use borrow.Author.Needs.{needs}
 use Rattle.insertion.proofs.pick_child.Statement.{statement}
 use Rattle.insertion.proofs.pick_child.Tie as tie
@@ -21,9 +20,8 @@ returns c = search (needs, pick-missing)
 add-end-of : tie.Need-add-end-of
 add-end-of c =
     let s = c .before .before .before in
-    let i = s .before .before .before in
-    let a = i .args in
-    let m = pick-after _ (a .kind) (keyOf (a .last) (a .word) (a .flag) (a .text .now)) _ _ _ (s .find-child .ensures) _ (i .pre) (c .before .at .given .1) in
+    let i = s .before .before in
+    let m = pick-after _ (i .args .key) _ _ _ (s .find-child .ensures) _ (i .pre) (c .before .at .given .1) in
     omega (arith, m .order)
 
 end-of-requires : tie.Need-end-of-requires

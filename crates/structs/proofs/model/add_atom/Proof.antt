@@ -14,6 +14,9 @@ enum-known-checked c = search needs
 enum-known-checked-2 : tie.Need-enum-known-checked-2
 enum-known-checked-2 c = search needs
 
+prepare-requires : tie.Need-prepare-requires
+prepare-requires c κs = search needs
+
 add-atom-requires : tie.Need-add-atom-requires
 add-atom-requires c κs = search (needs, good)
 
@@ -36,6 +39,7 @@ add-atom-spec =
     check-requires
     enum-known-checked
     enum-known-checked-2
+    prepare-requires
     add-atom-requires
     same-length
     returns
