@@ -15,7 +15,8 @@ use Rattle.machine.specs.declared.Refusal.the-variants.{TreeShape}
 use Rattle.moves.specs.Over.{over}
 use Rattle.moves.proofs.Laws.{over-over}
 use Rattle.edits.specs.Apply.{applyRun}
-use Rattle.claims.specs.Claim.{Runs, Seen, Claims, findRuns, wholeRun}
+use Rattle.demands.specs.Queries.{Runs, runsOf}
+use Rattle.claims.specs.Claim.{Seen, Claims, wholeRun}
 use Rattle.claims.proofs.Whole.{whole-claims}
 
 -- ---- find_joined
@@ -59,16 +60,16 @@ joined-find t t₁ t₂ t₃ A B code w out run e₁ e₂ e₃ h e = e ∙ ap (�
 pub all-runs : (w A B first second both either opposite : List ℕ) (r : Runs)
     → r .first ≡ findRun w A first → r .second ≡ findRun w B second → r .both ≡ findRun w (andTree A B) both
     → r .either ≡ findRun w (orTree A B) either → r .opposite ≡ findRun w (notTree A) opposite
-    → r ≡ findRuns w A B first second both either opposite
+    → r ≡ runsOf (findRun w) A B first second both either opposite
 all-runs w A B first second both either opposite r a b c d e = rw (← a, ← b, ← c, ← d, ← e)
 
 module _ (w w₁ list out A B first second both either opposite : List ℕ) (s : Seen) where
   whole : (s .opened, w₁) ≡ openRun w → record { numbers = s .applied; store = s .store; out = s .answers } ≡ applyRun w₁ list out
-      → s .runs ≡ findRuns (s .store) A B first second both either opposite
+      → s .runs ≡ runsOf (findRun (s .store)) A B first second both either opposite
       → s ≡ wholeRun w list out A B first second both either opposite
   whole o r f = rw (← o, ← r, ← f)
 
   pub claimed : (s .opened, w₁) ≡ openRun w → record { numbers = s .applied; store = s .store; out = s .answers } ≡ applyRun w₁ list out
-      → s .runs ≡ findRuns (s .store) A B first second both either opposite
+      → s .runs ≡ runsOf (findRun (s .store)) A B first second both either opposite
       → Claims (length w) list A B s × (s ≡ wholeRun w list out A B first second both either opposite)
   claimed o r f = (rw (whole o r f) (whole-claims w list out A B first second both either opposite), whole o r f)

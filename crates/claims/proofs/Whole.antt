@@ -10,15 +10,14 @@ use lib.Dec.{leb}
 use Rattle.machine.specs.Lists.{concatMap}
 use Rattle.machine.specs.Answer.{Result, ok, refused}
 use Rattle.machine.specs.Store.{Machine, readStore, openRun}
-use Rattle.machine.specs.Query.{andTree, orTree, notTree}
 use Rattle.machine.specs.Edit.{Call, Change, machineStep, answer, next, machineAnswers, storeAfter, storeAnswers}
-use Rattle.machine.specs.Demand.{accepts, Accepted}
+use Rattle.machine.specs.Demand.{accepts}
 use Rattle.laws.specs.Steps.{refusal-number}
 use Rattle.calls.specs.Format.{readCalls}
 use Rattle.edits.specs.Apply.{Run, answered, runCalls, runRead, applyRun}
-use Rattle.demands.specs.Demand.{answers, machine, findAfter}
+use Rattle.demands.specs.Demand.{answers}
 use Rattle.demands.proofs.Demand.{demand3}
-use Rattle.claims.specs.Claim.{threes, Lists, Claims, wholeRun}
+use Rattle.claims.specs.Claim.{threes, Claims, wholeRun}
 
 -- ---- the list
 
@@ -69,7 +68,6 @@ module _ (w list out A B first second both either opposite : List ℕ) where
       let cs = l .calls in
       let d = demand3 w cs opens in
       let is : threes (length cs) (applyRun (openRun w .1) list out .out) ≡ answers w cs = rw (l .out, d .answered) (threes-answers (length w) [] cs _) in
-      let lists-for : (t out : List ℕ) → Accepted (findAfter w cs t out) → Lists (machine w cs) t (findAfter w cs t out) = λ t out x. record { hits = d .lists t out x; rises = d .rises t out x; number = d .number t out x } in
       record {
         calls = cs;
         read = l .read;
@@ -77,15 +75,6 @@ module _ (w list out A B first second both either opposite : List ℕ) where
           held = d .held;
           answered = d .answered;
           counted = d .counted;
-          for-first = lists-for A first;
-          for-second = lists-for B second;
-          for-both = lists-for (andTree A B) both;
-          for-either = lists-for (orTree A B) either;
-          for-opposite = lists-for (notTree A) opposite;
-          and-shares = d .and-shares A B first second both;
-          or-joins = d .or-joins A B first second either;
-          and-or-counts = d .and-or-counts A B first second both either;
-          not-shares = d .not-shares A first opposite;
-          not-counts = d .not-counts A first opposite;
+          queries = d .queries A B first second both either opposite;
         };
       }

@@ -5,7 +5,8 @@ ghost use mathlib.Core.List.{[], _∷_, _++_};
 ghost use lib.ListN.{length};
 ghost use Rattle.machine.specs.Answer.{foundNumbers};
 ghost use Rattle.machine.specs.Find.{findRun};
-ghost use Rattle.claims.specs.Claim.{runsSeen, findRuns, seen, wholeRun, Claims};
+ghost use Rattle.demands.specs.Queries.{runsOf};
+ghost use Rattle.claims.specs.Claim.{runsSeen, seen, wholeRun, Claims};
 use machine::Applied;
 use machine::Found;
 use machine::Opened;
@@ -57,7 +58,7 @@ fn find_all(
     opposite: &mut [u64],
 ) -> Finds
     ensures { λ r. ⌜ runsSeen r (now (first .exit)) (now (second .exit)) (now (both .exit)) (now (either .exit)) (now (opposite .exit))
-        ≡ findRuns (now (store .entry)) (now (a .entry)) (now (b .entry))
+        ≡ runsOf (findRun (now (store .entry))) (now (a .entry)) (now (b .entry))
         (now (first .entry)) (now (second .entry)) (now (both .entry)) (now (either .entry)) (now (opposite .entry)) ⌝ }
 {
     let in_first = structs::pdb::find(store, a, first);

@@ -1,27 +1,22 @@
 -- The third demand, proved: one theorem over any list of edits from a store just opened, and any runs of find after it. Assumes nothing.
 use Prim.Native.Nat.{ℕ, _+_}
-use mathlib.Core.Path.{_≡_, refl, sym, ap, _∙_}
-use mathlib.Core.Bool.{Bool, true, false, _&&_, _||_, cond, false≢true}
-use mathlib.Core.List.{List, [], _∷_, map, map-map}
+use mathlib.Core.Path.{_≡_, refl, ap}
+use mathlib.Core.Bool.{Bool, true, false, cond, false≢true}
+use mathlib.Core.List.{List, [], _∷_}
 use native.Mathlib.Omega.{arith}
-use lib.ListN.{length, replicate, length-map}
-use Rattle.machine.specs.Lists.{filter}
+use lib.ListN.{length, replicate}
 use Rattle.machine.specs.Answer.{Result, ok, refused}
-use Rattle.machine.specs.Store.{Machine, records, stored, layOut, goodLength, readStore, openRun}
-use Rattle.machine.specs.Kleene.{notT, isHit, isUndecided}
-use Rattle.machine.specs.Query.{tables, andTree, orTree, notTree}
-use Rattle.machine.specs.Find.{Site, atomsOf, valueAt, hitsIn}
+use Rattle.machine.specs.Store.{Machine, stored, layOut, goodLength, readStore, openRun}
+use Rattle.machine.specs.Query.{tables, readTree, notTree}
+use Rattle.machine.specs.Find.{atomsOf, hitsIn, hitsOf, findRun}
 use Rattle.machine.specs.Edit.{Call, Change, machineStep, answer, next, stepBy, storeStep, machineAfter, machineAnswers, storeAfter, storeAnswers}
-use Rattle.machine.specs.Demand.{added, removed, Accepted, count, list, atomNumber, Rising, undecided}
-use Rattle.laws.specs.Counting.{filter-same, filter-all, filter-both, Keyed, keyed-filter, shared-filter, any-filter, rises-rising}
+use Rattle.machine.specs.Demand.{added, removed, Accepted, count, undecided}
 use Rattle.laws.specs.Good.{Fit}
 use Rattle.laws.specs.Layout.{layOut-length, fit-words, read-layOut, open-empty}
-use Rattle.laws.specs.Kleene.{hit-and, hit-or, hit-both, hit-either}
-use Rattle.laws.specs.Trees.{and-value, or-value, not-value}
-use Rattle.laws.specs.Numbers.{numbers-rise, atoms-stored}
+use Rattle.laws.specs.Numbers.{five-numbers, numbers-rise, atoms-stored}
 use Rattle.laws.specs.Steps.{step-keeps, step-counts}
-use Rattle.demands.specs.Demand.{after, answers, machine, findAfter, Demand3}
-use Rattle.demands.proofs.Runs.{Listed, run-listed}
+use Rattle.demands.specs.Demand.{after, answers, machine, Demand3}
+use Rattle.demands.proofs.Queries.{Listed, run-listed, queries}
 
 -- ---- the edits
 
@@ -59,7 +54,14 @@ steps n m (c ∷ cs) g f =
       counted = omega arith;
     }
 
--- ---- the runs: every list is picked from the stored atoms by a test
+-- ---- find on words that hold a machine
+
+module _ (m : Machine) (w : List ℕ) (e : readStore w ≡ ok m) where
+  pub find-listed : (t out : List ℕ) → Accepted (findRun w t out) → Listed tables 1 (atomsOf m) t (findRun w t out)
+  unfolding findRun hitsOf hitsIn
+  find-listed t out a = rw e (run-listed tables 1 (atomsOf m) (five-numbers m) t out (readTree t) refl (rw e at a))
+
+-- ---- a store just opened
 
 -- opening accepts what has a good length
 pub opened-length : (w : List ℕ) → Accepted (openRun w) → goodLength (length w) ≡ true
@@ -90,89 +92,24 @@ module _ (w : List ℕ) (calls : List Call) (opens : Accepted (openRun w)) where
   is-answered : answers w calls ≡ machineAnswers (length w) [] calls
   is-answered = rw opened (all-steps .answered)
 
-  is-counted : stored (machine w calls) + removed (answers w calls) ≡ added calls (answers w calls)
-  is-counted = rw is-answered (let c = all-steps .counted in omega arith)
+  is-counted : length (atomsOf (machine w calls)) + removed (answers w calls) ≡ added calls (answers w calls)
+  is-counted = rw is-answered (let c = all-steps .counted in omega (arith, atoms-stored (machine w calls)))
 
   reads : readStore (after w calls) ≡ ok (machine w calls)
   reads = rw is-held (read-layOut (length w) (machine w calls) accepted (all-steps .fit))
 
-  abbrev atoms : List Site
-  atoms = atomsOf (machine w calls)
-
-  abbrev hits : List ℕ → Site → Bool
-  hits t s = isHit (valueAt tables t s)
-
-  abbrev numbersOf : Site → List ℕ
-  numbersOf s = s .numbers
-
-  keyed : Keyed numbersOf atomNumber 0 (length (records (machine w calls))) atoms
-  keyed = numbers-rise (machine w calls)
-
-  -- an accepted run
-  module _ (t out : List ℕ) (a : Accepted (findAfter w calls t out)) where
-    ran : Listed (machine w calls) t (findAfter w calls t out)
-    ran = run-listed (machine w calls) t out (after w calls) reads a
-
-    hits-listed : list (findAfter w calls t out) ≡ map numbersOf (filter (hits t) atoms)
-    unfolding hitsIn
-    hits-listed = ran .hits
-
-    hits-counted : count (findAfter w calls t out) ≡ length (filter (hits t) atoms)
-    hits-counted = ran .number ∙ ap length hits-listed ∙ length-map (filter (hits t) atoms) numbersOf
-
-    hits-rise : Rising (map atomNumber (list (findAfter w calls t out)))
-    hits-rise =
-        rw (hits-listed, map-map)
-        (rises-rising 0 (length (records (machine w calls))) (map (λ s. atomNumber (numbersOf s)) (filter (hits t) atoms)) (keyed-filter numbersOf atomNumber (hits t) 0 (length (records (machine w calls))) atoms keyed))
-
-  module _ (A o : List ℕ) (a : Accepted (findAfter w calls A o)) where
-    module _ (B p : List ℕ) (b : Accepted (findAfter w calls B p)) where
-      and-hits : (q : List ℕ) → Accepted (findAfter w calls (andTree A B) q) → filter (hits (andTree A B)) atoms ≡ filter (λ s. hits A s && hits B s) atoms
-      and-hits q c =
-          filter-same (hits (andTree A B)) (λ s. hits A s && hits B s)
-          (λ s. ap isHit (and-value _ A _ (ran A o a .tree) B _ (ran B p b .tree) _ (ran (andTree A B) q c .tree)) ∙ hit-and (valueAt tables A s) (valueAt tables B s)) atoms
-
-      or-hits : (q : List ℕ) → Accepted (findAfter w calls (orTree A B) q) → filter (hits (orTree A B)) atoms ≡ filter (λ s. hits A s || hits B s) atoms
-      or-hits q c =
-          filter-same (hits (orTree A B)) (λ s. hits A s || hits B s)
-          (λ s. ap isHit (or-value _ A _ (ran A o a .tree) B _ (ran B p b .tree) _ (ran (orTree A B) q c .tree)) ∙ hit-or (valueAt tables A s) (valueAt tables B s)) atoms
-
-    module _ (p : List ℕ) (b : Accepted (findAfter w calls (notTree A) p)) where
-      not-hits : (s : Site) → hits (notTree A) s ≡ isHit (notT (valueAt tables A s))
-      not-hits s = ap isHit (not-value _ A _ (ran A o a .tree) _ (ran (notTree A) p b .tree))
-
-      undecided-hits : filter (λ s. hits A s && hits (notTree A) s) atoms ≡ filter (λ s. isUndecided (valueAt tables A s)) atoms
-      undecided-hits = filter-same (λ s. hits A s && hits (notTree A) s) (λ s. isUndecided (valueAt tables A s)) (λ s. rw (not-hits s) (hit-both (valueAt tables A s))) atoms
-
-      all-hits : filter (λ s. hits A s || hits (notTree A) s) atoms ≡ atoms
-      all-hits = filter-same (λ s. hits A s || hits (notTree A) s) (λ s. true) (λ s. rw (not-hits s) (hit-either (valueAt tables A s))) atoms ∙ filter-all atoms
-
   -- the third demand
   pub demand3 : Demand3 w calls
-  unfolding undecided
   demand3 =
       record {
         answered = is-answered;
         held = is-held;
         counted = is-counted;
-        lists = hits-listed;
-        rises = hits-rise;
-        number = λ t out a. ran t out a .number;
-        and-shares = λ A B o p q a b c.
-            rw (hits-listed (andTree A B) q c, and-hits A o a B p b q c, hits-listed A o a, hits-listed B p b)
-            (sym (shared-filter numbersOf atomNumber (hits A) (hits B) 0 _ atoms keyed));
-        or-joins = λ A B o p q a b c hit.
-            rw (hits-listed (orTree A B) q c, or-hits A o a B p b q c, hits-listed A o a, hits-listed B p b)
-            (any-filter numbersOf atomNumber (hits A) (hits B) hit atoms);
-        and-or-counts = λ A B o p q r a b c e.
-            rw (hits-counted A o a, hits-counted B p b, hits-counted (andTree A B) q c, and-hits A o a B p b q c, hits-counted (orTree A B) r e, or-hits A o a B p b r e)
-            (filter-both (hits A) (hits B) atoms);
-        not-shares = λ A o p a b.
-            rw (hits-listed A o a, hits-listed (notTree A) p b)
-            (shared-filter numbersOf atomNumber (hits A) (hits (notTree A)) 0 _ atoms keyed ∙ ap (map numbersOf) (undecided-hits A o a p b));
-        not-counts = λ A o p a b.
-            let h = filter-both (hits A) (hits (notTree A)) atoms in
-            let u = ap length (undecided-hits A o a p b) in
-            let v = ap length (all-hits A o a p b) in
-            omega (arith, hits-counted A o a, hits-counted (notTree A) p b, atoms-stored (machine w calls), is-counted);
+        queries = λ A B first second both either opposite.
+            queries tables 1 (atomsOf (machine w calls)) 0 _ (numbers-rise (machine w calls)) (findRun (after w calls)) (find-listed (machine w calls) (after w calls) reads) A B first second both either opposite;
       }
+
+  -- "n(A) + n(not A) = added − removed + undecided"
+  pub added-removed : (A o p : List ℕ) → Accepted (findRun (after w calls) A o) → Accepted (findRun (after w calls) (notTree A) p)
+      → count (findRun (after w calls) A o) + count (findRun (after w calls) (notTree A) p) + removed (answers w calls) ≡ added calls (answers w calls) + undecided tables 1 A (atomsOf (machine w calls))
+  added-removed A o p x y = omega (arith, demand3 .queries A [] o [] [] [] p .not-counts x y, is-counted)

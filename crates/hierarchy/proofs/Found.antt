@@ -17,12 +17,13 @@ use Rattle.machine.specs.Store.{Branch, Machine, flat, records, laid, layOut, r
 use Rattle.machine.specs.Kleene.{isHit}
 use Rattle.machine.specs.Query.{tables, readTree}
 use Rattle.machine.specs.declared.Node.{Node}
-use Rattle.machine.specs.Find.{Site, enter, below, top, size, atomsIn, atomsOf, valueAt, hitsIn, hitsOf, hitWords, written, findRun}
+use Rattle.machine.specs.Find.{Site, enter, below, top, size, atomsIn, atomsOf, valueFrom, hitsIn, hitsOf, hitWords, written, findRun}
 use Rattle.laws.specs.Lists.{All, All-append, All-map, All-over}
 use Rattle.laws.specs.Counting.{filter-All}
 use Rattle.laws.specs.Grouped.{concat, twelve-words}
+use Rattle.laws.specs.Numbers.{five-numbers}
 use Rattle.laws.specs.Layout.{layOut-read, read-length, read-fit, fit-words}
-use Rattle.demands.proofs.Runs.{hits-five}
+use Rattle.demands.proofs.Queries.{hits-five}
 use Rattle.moves.proofs.Records.{record-at}
 use Rattle.hierarchy.specs.Hit.{recordOf, isKind, areKinds, numbersAt, namedBy, nthOf}
 use Rattle.hierarchy.specs.declared.Named.the-variants.{At}
@@ -154,7 +155,7 @@ All-at P (h ∷ hs) a (suc i) l = All-at P hs (a .1) i (omega arith)
 hits-shown : (w t : List ℕ) (m : Machine) → readStore w ≡ ok m → All (λ h. namedBy w (numbersAt h 0) ≡ At (numbersAt h 0)) (hitsIn tables t m)
 unfolding hitsIn
 hits-shown w t m h =
-    let hit : Site → Bool = λ s. isHit (valueAt tables t s) in
+    let hit : Site → Bool = λ s. isHit (valueFrom tables 1 t s) in
     All-over (λ h. namedBy w (numbersAt h 0) ≡ At (numbersAt h 0)) (λ (s : Site). s .numbers) (filter hit (atomsOf m))
     (filter-All (λ s. namedBy w (numbersAt (s .numbers) 0) ≡ At (numbersAt (s .numbers) 0)) hit (atomsOf m) (All-map (λ s x. x .named) (atomsOf m) (sites-shown w m h)))
 
@@ -177,7 +178,8 @@ module _ (w out : List ℕ) (n i : ℕ) (low : i < n) where
 
   result-named : (t : List ℕ) (store : Result Machine) → readStore w ≡ store → (tree : Result (List Node)) → written out (store >>= (λ m. tree >> ok (hitsIn tables t m))) .0 ≡ 0 ∷ n ∷ []
       → nthOf w (written out (store >>= (λ m. tree >> ok (hitsIn tables t m))) .1) i ≡ At (numbersAt (written out (store >>= (λ m. tree >> ok (hitsIn tables t m))) .1) i)
-  result-named t (ok m) h (ok ns) e = written-named (hitsIn tables t m) (hits-five t m) (hits-shown w t m h) (leb (5 * length (hitsIn tables t m)) (length out)) refl e
+  unfolding hitsIn
+  result-named t (ok m) h (ok ns) e = written-named (hitsIn tables t m) (hits-five tables 1 (atomsOf m) (five-numbers m) t) (hits-shown w t m h) (leb (5 * length (hitsIn tables t m)) (length out)) refl e
   result-named t (ok m) h (refused c) e = absurd (none-listed (refusalNumber c) e)
   result-named t (refused c) h tree e = absurd (none-listed (refusalNumber c) e)
 

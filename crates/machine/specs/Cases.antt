@@ -10,7 +10,7 @@ use Rattle.machine.specs.Answer.{Result, ok, refused, refusalNumber}
 use Rattle.machine.specs.Text.{packed, unpacked, withoutZeros, textOf, trimStart, trim, chainId, uppercaseOr, atomName, matches, storedBy, packedText, Optional}
 use Rattle.machine.specs.Record.{Words, words, fieldsOf, goodValues, goodFields, goodRecord, readOut}
 use Rattle.machine.specs.Store.{Machine, stored, flat, atomCount, laid, layOut, inOrder, goodLayout, sections, group, readStore}
-use Rattle.machine.specs.Query.{codes, nodeOf, nodesOf, run, leavesOne, readTree, treeValue, dropSign, close, termValue, tables, packedName}
+use Rattle.machine.specs.Query.{codes, nodeOf, nodesOf, run, leavesOne, readTree, treeValue, dropSign, close, termValue, window, tables, packedName}
 use Rattle.machine.specs.Find.{enter, atomsIn, atomsOf, hitsIn, hitsOf, findRun}
 use Rattle.machine.specs.Edit.{Addition, addition, Call, AddModel, AddAtom, branchAt, replaceAt, addModel, prepare, upsert, addPrepared, machineStep, stepBy, storeStep, storeAfter, storeAnswers}
 use Rattle.machine.specs.Program.{readInput, digits, printed, programRun}
@@ -149,7 +149,7 @@ cases =
     case 1 (found S element7) (4 ∷ 5 ∷ [])
     ∷ case 1 (findRun S element7 (replicate 11 9) .1) (0 ∷ 1 ∷ 2 ∷ 3 ∷ 4 ∷ 0 ∷ 1 ∷ 2 ∷ 3 ∷ 5 ∷ 9 ∷ [])
     ∷ case 2 (found S notElement7) (5 ∷ [])
-    ∷ case 2 (length (found S element7) ∷ length (found S notElement7) ∷ held S stored ∷ held S (undecided element7) ∷ []) (2 ∷ 1 ∷ 2 ∷ 1 ∷ [])
+    ∷ case 2 (length (found S element7) ∷ length (found S notElement7) ∷ held S stored ∷ held S (λ m. undecided tables 1 element7 (atomsOf m)) ∷ []) (2 ∷ 1 ∷ 2 ∷ 1 ∷ [])
     ∷ case 2 (programRun (file S notElement7)) (bytes "0 1 2 3 5\nfound 1\n")
     ∷ case 3 (found S (node 14 (packedName "N") 0 ++ element7 ++ node 23 0 0)) (4 ∷ [])
     ∷ case 4 (found S (element7 ++ element7 ++ node 25 0 0)) (5 ∷ [])
@@ -166,5 +166,5 @@ cases =
     ∷ []
 
 pub worked : map (λ (c : Case). c .given) cases ≡ map (λ (c : Case). c .stated) cases
-unfolding cases S renamed withBFactor packed unpacked withoutZeros textOf trimStart trim chainId uppercaseOr atomName matches storedBy packedText words fieldsOf goodValues goodFields goodRecord readOut flat atomCount laid layOut inOrder goodLayout sections group readStore codes nodeOf nodesOf run leavesOne readTree treeValue dropSign close termValue tables enter atomsIn atomsOf hitsIn hitsOf findRun branchAt replaceAt addModel prepare upsert addPrepared machineStep stepBy storeStep storeAfter storeAnswers readInput digits printed programRun undecided ofBits sub lt
+unfolding cases S renamed withBFactor packed unpacked withoutZeros textOf trimStart trim chainId uppercaseOr atomName matches storedBy packedText words fieldsOf goodValues goodFields goodRecord readOut flat atomCount laid layOut inOrder goodLayout sections group readStore codes nodeOf nodesOf run leavesOne readTree treeValue dropSign close termValue tables window enter atomsIn atomsOf hitsIn hitsOf findRun branchAt replaceAt addModel prepare upsert addPrepared machineStep stepBy storeStep storeAfter storeAnswers readInput digits printed programRun undecided ofBits sub lt
 worked = refl

@@ -6,10 +6,9 @@ use mathlib.Core.List.{List, [], _∷_}
 use lib.ListN.{length, getD, take, drop}
 use lib.Dec.{eqb}
 use Rattle.machine.specs.Lists.{any, filter, sum, same}
-use Rattle.machine.specs.Store.{Machine}
 use Rattle.machine.specs.Kleene.{isUndecided}
-use Rattle.machine.specs.Query.{tables}
-use Rattle.machine.specs.Find.{valueAt, atomsOf}
+use Rattle.machine.specs.Query.{Names}
+use Rattle.machine.specs.Find.{Site, valueFrom}
 use Rattle.machine.specs.Edit.{Call, AddModel, AddAtom, RemoveChain, RemoveResidue, RemoveConformer, RemoveAtom, RemoveChainById, RemoveResidueById, RemoveConformerById, RemoveAtomBySerialNumber, RemoveAtomsBy, RemoveEmpty, JoinModels, JoinChains, JoinResidues, JoinConformers}
 
 -- "a call is accepted when its result is 0"
@@ -87,5 +86,5 @@ Rising (x ∷ []) = Unit {0}
 Rising (x ∷ y ∷ ys) = (x < y) × Rising (y ∷ ys)
 
 -- "Undecided is the number of stored atoms at which A is undecided."
-unfoldable pub undecided : List ℕ → Machine → ℕ
-undecided t m = length (filter (λ s. isUndecided (valueAt tables t s)) (atomsOf m))
+unfoldable pub undecided : Names → ℕ → List ℕ → List Site → ℕ
+undecided names low t atoms = length (filter (λ s. isUndecided (valueFrom names low t s)) atoms)

@@ -11,7 +11,7 @@ use Rattle.machine.specs.Answer.{Result, ok, refused, refusalNumber}
 use Rattle.machine.specs.Text.{packed, pack, unpacked, withoutZeros, textOf, trimStart, trim, chainId, uppercaseOr, atomName, alternativeLocation, insertionCode, Optional, matches, matchesOptional, storedBy, packedText, before}
 use Rattle.machine.specs.Record.{Words, words, fieldsOf, goodValues, goodFields, goodRecord, readOut}
 use Rattle.machine.specs.Store.{flat, atomCount, laid, layOut, inOrder, goodLayout, sections, group, readStore, openRun}
-use Rattle.machine.specs.Query.{codes, nodeOf, nodesOf, run, leavesOne, readTree, treeValue, termValue, tables, packedName}
+use Rattle.machine.specs.Query.{codes, nodeOf, nodesOf, run, leavesOne, readTree, treeValue, termValue, window, tables, packedName}
 use Rattle.machine.specs.Find.{enter, atomsIn, atomsOf, hitsIn, hitsOf, findRun}
 use Rattle.machine.specs.Edit.{addition, Call, AddModel, AddAtom, RemoveChain, RemoveAtom, RemoveChainById, RemoveResidueById, RemoveConformerById, RemoveAtomBySerialNumber, RemoveAtomsBy, RemoveEmpty, JoinModels, JoinResidues, branchAt, replaceAt, addModel, prepare, upsert, addPrepared, removeAt, removeFirst, keepAtoms, removeAtomsBy, nonEmpty, removeEmpty, joinAt, machineStep, stepBy, storeStep, storeAfter, storeAnswers}
 use Rattle.machine.specs.Lookup.{numbered, serials, lookupIn, lookupRun}
@@ -234,7 +234,7 @@ examples =
     ∷ []
 
 pub shown : map (λ (c : Case). c .given) examples ≡ map (λ (c : Case). c .stated) examples
-unfolding examples serialStore S packed unpacked withoutZeros textOf trimStart trim chainId uppercaseOr atomName matches storedBy packedText words fieldsOf goodValues goodFields goodRecord readOut flat atomCount laid layOut inOrder goodLayout sections group readStore openRun codes nodeOf nodesOf run leavesOne readTree treeValue termValue tables enter atomsIn atomsOf hitsIn hitsOf findRun branchAt replaceAt addModel prepare upsert addPrepared removeAt removeFirst keepAtoms removeAtomsBy nonEmpty removeEmpty joinAt machineStep stepBy storeStep storeAfter storeAnswers numbered serials lookupIn lookupRun readInput digits printed programRun ofBits sub lt before
+unfolding examples serialStore S packed unpacked withoutZeros textOf trimStart trim chainId uppercaseOr atomName matches storedBy packedText words fieldsOf goodValues goodFields goodRecord readOut flat atomCount laid layOut inOrder goodLayout sections group readStore openRun codes nodeOf nodesOf run leavesOne readTree treeValue termValue tables window enter atomsIn atomsOf hitsIn hitsOf findRun branchAt replaceAt addModel prepare upsert addPrepared removeAt removeFirst keepAtoms removeAtomsBy nonEmpty removeEmpty joinAt machineStep stepBy storeStep storeAfter storeAnswers numbered serials lookupIn lookupRun readInput digits printed programRun ofBits sub lt before
 shown = refl
 
 -- "over 65,536 bytes": the next multiple of 8 is refused

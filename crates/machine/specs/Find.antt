@@ -10,7 +10,7 @@ use Rattle.machine.specs.Answer.{Result, ok, refused, _>>=_, _>>_, found
 use Rattle.machine.specs.Record.{Fields}
 use Rattle.machine.specs.Store.{Branch, Machine, flat, readStore}
 use Rattle.machine.specs.Kleene.{isHit}
-use Rattle.machine.specs.Query.{Place, Names, readTree, treeValue, termValue, tables}
+use Rattle.machine.specs.Query.{Place, Names, window, readTree, treeValue, termValue, tables}
 use Rattle.machine.specs.declared.Tri.{Tri}
 use Rattle.machine.specs.declared.Found as Found
 use Rattle.machine.specs.declared.Refusal.the-variants.{ShortOutput}
@@ -53,13 +53,17 @@ atomsIn (suc k) s n t = concatMapFrom (size k) (atomsIn k (below (suc k) n (t .0
 unfoldable pub atomsOf : Machine → List Site
 atomsOf m = concatMapFrom (size 4) (atomsIn 4 top) 0 m
 
--- "A tree's value at an atom comes from Kleene's tables, with the terms of all five levels at their values there."
-abbrev pub valueAt : Names → List ℕ → Site → Tri
-valueAt names t s = treeValue (termValue names (s .place)) t
+-- "A tree's value at an atom comes from Kleene's tables", with the terms of the kinds from low on at their values there, and those above undecided
+abbrev pub valueFrom : Names → ℕ → List ℕ → Site → Tri
+valueFrom names low t s = treeValue (termValue names (window low 5 (s .place))) t
 
 -- "A hit is five words: the record numbers of model, chain, residue, conformer, atom."
+abbrev pub hitsAmong : Names → ℕ → List ℕ → List Site → List (List ℕ)
+hitsAmong names low t atoms = map (λ s. s .numbers) (filter (λ s. isHit (valueFrom names low t s)) atoms)
+
+-- "with the terms of all five levels at their values there"
 unfoldable pub hitsIn : Names → List ℕ → Machine → List (List ℕ)
-hitsIn names t m = map (λ s. s .numbers) (filter (λ s. isHit (valueAt names t s)) (atomsOf m))
+hitsIn names t m = hitsAmong names 1 t (atomsOf m)
 
 unfoldable pub hitsOf : List ℕ → List ℕ → Result (List (List ℕ))
 hitsOf w t = do

@@ -191,7 +191,7 @@ onlyIf false o = none
 abbrev pub between : ℕ → ℕ → ℕ → Bool
 between low high n = leb low n && leb n high
 
--- a place with the kinds from low to high alone known: it serves laws about pruning and searches that start lower down, and no definition of document 01
+-- a place with the kinds from low to high alone known
 unfoldable pub window : ℕ → ℕ → Place → Place
 window low high e =
     record {

@@ -19,8 +19,7 @@ use Rattle.laws.specs.Lists.{length-concatMap}
 use Rattle.laws.specs.Good.{Fit}
 use Rattle.laws.specs.Layout.{read-layOut}
 use Rattle.laws.specs.Steps.{step-keeps, refusal-number}
-use Rattle.demands.proofs.Demand.{demand3, opened-length, store-step}
-use Rattle.demands.proofs.Runs.{run-listed}
+use Rattle.demands.proofs.Demand.{demand3, opened-length, store-step, find-listed}
 use Rattle.pdbtbx.specs.Structs.{PDB}
 use Rattle.pdbtbx.specs.Words.{structOf, pdbOf, machineFrom}
 use Rattle.pdbtbx.specs.Find.{countOf, findIn}
@@ -176,9 +175,9 @@ module _ (w : List ℕ) (calls : List Call) (o : Accepted (openRun w)) where
         founds = ap (λ (l : List (List ℕ)). map foundBy (filter accepts l)) (demand3 w calls o .answered) ∙ both .founds;
         words = held ∙ ap (layOut (length w)) (sym back);
         texts = both .held ∙ ap pdbOf (sym back);
-        reads = λ t out k. let l = run-listed after t out (store w calls) read k in reads t (l .nodes) (l .tree);
+        reads = λ t out k. let l = find-listed after (store w calls) read t out k in reads t (l .nodes) (l .tree);
         hits = λ t out k.
-            let l = run-listed after t out (store w calls) read k in
+            let l = find-listed after (store w calls) read t out k in
             l .hits ∙ sym (find-hits t (reads t (l .nodes) (l .tree)) after) ∙ ap (findIn (searchOf t)) (sym (both .held));
         takes = takes;
       }

@@ -8,8 +8,9 @@ use Rattle.machine.specs.Lists.{filter, concatMapFrom}
 use Rattle.machine.specs.Record.{Fields}
 use Rattle.machine.specs.Store.{Branch, Machine}
 use Rattle.machine.specs.Kleene.{isHit}
-use Rattle.machine.specs.Query.{Place, window, termValue, tables}
-use Rattle.machine.specs.Find.{Site, enter, below, size, atomsIn, atomsOf, valueAt, hitsIn}
+use Rattle.machine.specs.Query.{Place, window, treeValue, termValue, tables}
+use Rattle.machine.specs.declared.Tri.{Tri}
+use Rattle.machine.specs.Find.{Site, enter, below, size, atomsIn, atomsOf, hitsIn}
 use Rattle.laws.specs.Counting.{filter-same}
 use Rattle.pdbtbx.specs.Words.{structsOf, pdbOf}
 use Rattle.pdbtbx.specs.Find.{findBelow, findIn}
@@ -17,6 +18,10 @@ use Rattle.pdbtbx.specs.Calls.{searchOf}
 use Rattle.pdbtbx.specs.Demand.{Reads, Above, FindsFrom}
 use Rattle.pdbtbx.proofs.Vecs.{filter-map}
 use Rattle.pdbtbx.proofs.Hits.{hit, numbersOf, start, found-below}
+
+-- a tree's value at a site, with all that the site knows
+abbrev valueHere : List ℕ → Site → Tri
+valueHere t s = treeValue (termValue tables (s .place)) t
 
 -- a site with the levels from k down alone known
 abbrev pub from : ℕ → Site → Site
@@ -58,21 +63,21 @@ module _ (k : ℕ) (h : k ≤ 4) where
 module _ (t : List ℕ) (r : Reads t) where
   -- below a start of which only the record numbers are known
   find-below : (k : ℕ) → k ≤ 4 → (p : List ℕ) (n : ℕ) (ts : List (Branch k))
-      → map (λ (l : List ℕ). p ++ l) (findBelow k (searchOf t) n (structsOf k ts)) ≡ map numbersOf (filter (λ z. isHit (valueAt tables t z)) (concatMapFrom (size k) (atomsIn k (start p)) n ts))
+      → map (λ (l : List ℕ). p ++ l) (findBelow k (searchOf t) n (structsOf k ts)) ≡ map numbersOf (filter (λ z. isHit (valueHere t z)) (concatMapFrom (size k) (atomsIn k (start p)) n ts))
   find-below k l p n ts =
       found-below (searchOf t) k l p n ts
       ∙ ap (map numbersOf) (filter-same (hit (searchOf t)) _ (λ z. ap isHit (sym (r .kleene (termValue tables (z .place))))) (concatMapFrom (size k) (atomsIn k (start p)) n ts))
 
   -- `PDB::find`
   pub find-hits : (m : Machine) → findIn (searchOf t) (pdbOf m) ≡ hitsIn tables t m
-  unfolding hitsIn atomsOf
+  unfolding hitsIn atomsOf window
   find-hits m = sym (map-id (findIn (searchOf t) (pdbOf m))) ∙ find-below 4 (omega arith) [] 0 m
 
   -- the finds of every level
   pub finds-from : (k : ℕ) → k ≤ 4 → (z : Site) → Above k (z .place) → (n : ℕ) (ts : List (Branch k)) → FindsFrom t k z n ts
   finds-from k l z w n ts =
       find-below k l (z .numbers) n ts
-      ∙ ap (λ (y : Site). map numbersOf (filter (λ x. isHit (valueAt tables t x)) (concatMapFrom (size k) (atomsIn k y) n ts))) (from-start k l z w)
-      ∙ ap (λ (ys : List Site). map numbersOf (filter (λ x. isHit (valueAt tables t x)) ys)) (concatMapFrom-from (from k) (size k) _ _ (atoms-from k l k (omega arith) z) n ts)
+      ∙ ap (λ (y : Site). map numbersOf (filter (λ x. isHit (valueHere t x)) (concatMapFrom (size k) (atomsIn k y) n ts))) (from-start k l z w)
+      ∙ ap (λ (ys : List Site). map numbersOf (filter (λ x. isHit (valueHere t x)) ys)) (concatMapFrom-from (from k) (size k) _ _ (atoms-from k l k (omega arith) z) n ts)
       ∙ ap (map numbersOf) (filter-map (from k) _ _ (λ y. refl) (concatMapFrom (size k) (atomsIn k z) n ts))
-      ∙ map-map numbersOf (from k) (filter (λ y. isHit (valueAt tables t (from k y))) (concatMapFrom (size k) (atomsIn k z) n ts))
+      ∙ map-map numbersOf (from k) (filter (λ y. isHit (valueHere t (from k y))) (concatMapFrom (size k) (atomsIn k z) n ts))

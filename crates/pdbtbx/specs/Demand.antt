@@ -11,9 +11,9 @@ use Rattle.machine.specs.Lists.{keep, filter, sum, concatMapFrom, same}
 use Rattle.machine.specs.Answer.{ok, editedNumbers}
 use Rattle.machine.specs.Text.{trim}
 use Rattle.machine.specs.Store.{Branch, stored, capacity, layOut, openRun}
-use Rattle.machine.specs.Kleene.{decided, notT, applyT, isHit}
-use Rattle.machine.specs.Query.{Place, window, readTree, treeValue, termValue, tables}
-use Rattle.machine.specs.Find.{Site, size, atomsIn, findRun}
+use Rattle.machine.specs.Kleene.{decided, notT, applyT}
+use Rattle.machine.specs.Query.{Place, window, readTree, treeValue, tables}
+use Rattle.machine.specs.Find.{Site, size, atomsIn, hitsAmong, findRun}
 use Rattle.machine.specs.Edit.{Addition, Call, AddModel, AddAtom, RemoveChain, RemoveResidue, RemoveConformer, RemoveAtom, RemoveChainById, RemoveResidueById, RemoveConformerById, RemoveAtomBySerialNumber, RemoveAtomsBy, RemoveEmpty, JoinModels, JoinChains, JoinResidues, JoinConformers, storeStep, storeAfter, storeAnswers}
 use Rattle.machine.specs.Demand.{accepts, Accepted, list}
 use Rattle.machine.specs.declared.Tri.{Tri}
@@ -61,7 +61,7 @@ Above k e = window 1 (4 - k) e ≡ e
 abbrev pub FindsFrom : (t : List ℕ) (k : ℕ) (z : Site) (n : ℕ) (ts : List (Branch k)) → Type 0
 FindsFrom t k z n ts =
     map (λ (h : List ℕ). z .numbers ++ h) (findBelow k (searchOf t) n (structsOf k ts))
-    ≡ map (λ s. s .numbers) (filter (λ s. isHit (treeValue (termValue tables (window (5 - k) 5 (s .place))) t)) (concatMapFrom (size k) (atomsIn k z) n ts))
+    ≡ hitsAmong tables (5 - k) t (concatMapFrom (size k) (atomsIn k z) n ts)
 
 -- ---- the domain
 

@@ -13,7 +13,7 @@ use Rattle.machine.specs.Answer.{Result, ok, refused, _>>=_, _>>_, need, refusa
 use Rattle.machine.specs.Store.{Machine, records, goodLength, recordsOf, goodLayout, group, readStore}
 use Rattle.machine.specs.Kleene.{isHit}
 use Rattle.machine.specs.Query.{nodeOf, nodesOf, leavesOne, readTree, tables}
-use Rattle.machine.specs.Find.{Site, atomsOf, valueAt, hitsIn, hitsOf, hitWords, written, findRun}
+use Rattle.machine.specs.Find.{Site, atomsOf, valueFrom, hitsIn, hitsOf, hitWords, written, findRun}
 use Rattle.machine.specs.Program.{Input, wordsIn, split, readInput, digit, digits, decimal, newline, spaced, printed, programRun}
 use Rattle.machine.specs.Demand.{atomNumber}
 use Rattle.machine.specs.declared.Node.{Node}
@@ -22,11 +22,11 @@ use Rattle.machine.specs.declared.Refusal.the-variants.{BadLength, BrokenLayout
 use Rattle.machine.specs.declared.Found.the-variants.{Refused}
 use Rattle.laws.specs.Lists.{All, and-both}
 use Rattle.laws.specs.Counting.{Rises, keyed-filter}
-use Rattle.laws.specs.Numbers.{siteNumber, numbers-rise}
+use Rattle.laws.specs.Numbers.{siteNumber, five-numbers, numbers-rise}
 use Rattle.laws.specs.Layout.{read-fit}
 use Rattle.laws.specs.Steps.{refusal-digits}
 use Rattle.search.proofs.Nodes.{node-refused}
-use Rattle.demands.proofs.Runs.{fives-words, hits-five}
+use Rattle.demands.proofs.Queries.{fives-words, hits-five}
 use Rattle.decimals.proofs.Laws.{digits-few}
 use Rattle.program.proofs.Parts.{wordsIn-length}
 use Rattle.program.specs.Text.{line, lines, lastLine, answerText}
@@ -41,7 +41,7 @@ rises-length a b (x ∷ xs) h = omega (arith, h .0, rises-length (suc x) b xs (h
 hits-few : (t : List ℕ) (m : Machine) → length (hitsIn tables t m) ≤ length (records m)
 unfolding hitsIn
 hits-few t m =
-    let hit : Site → Bool = λ s. isHit (valueAt tables t s) in
+    let hit : Site → Bool = λ s. isHit (valueFrom tables 1 t s) in
     let k = keyed-filter (λ (s : Site). s .numbers) atomNumber hit 0 (length (records m)) (atomsOf m) (numbers-rise m) in
     let numbers : List ℕ = map siteNumber (filter hit (atomsOf m)) in
     simp length-map (omega (arith, rises-length 0 (length (records m)) numbers k, length-map (filter hit (atomsOf m)) siteNumber))
@@ -71,7 +71,8 @@ hits-682 w t hs l h =
     omega (arith, ap length (p .are), hits-few t (p .machine), read-fit w (p .machine) (p .read) .room)
 
 hits-are-five : (w t : List ℕ) (hs : List (List ℕ)) → hitsOf w t ≡ ok hs → All (λ h. length h ≡ 5) hs
-hits-are-five w t hs h = let p = hits-of w t hs h in rw (p .are) (hits-five t (p .machine))
+unfolding hitsIn
+hits-are-five w t hs h = let p = hits-of w t hs h in rw (p .are) (hits-five tables 1 (atomsOf (p .machine)) (five-numbers (p .machine)) t)
 
 -- ---- find isn't refused with 10
 

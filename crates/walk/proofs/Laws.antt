@@ -12,8 +12,8 @@ use Rattle.machine.specs.Lists.{keep, filter}
 use Rattle.machine.specs.Answer.{ok, foundNumbers}
 use Rattle.machine.specs.Store.{Machine, records, stored, readStore}
 use Rattle.machine.specs.Kleene.{isHit}
-use Rattle.machine.specs.Query.{Names, treeValue, termValue, readTree, tables}
-use Rattle.machine.specs.Find.{Site, atomsOf, hitsIn, hitsOf, hitWords, written, findRun}
+use Rattle.machine.specs.Query.{Names, readTree, tables}
+use Rattle.machine.specs.Find.{Site, atomsOf, valueFrom, hitsIn, hitsOf, hitWords, written, findRun}
 use Rattle.machine.specs.declared.RecordNumbers.{RecordNumbers}
 use Rattle.machine.specs.declared.Refusal.{Refusal}
 use Rattle.machine.specs.declared.Refusal.the-variants.{ShortOutput}
@@ -239,7 +239,7 @@ few-filter p (x ∷ xs) = few-kept (p x) x (filter p xs) (length xs) (few-filter
 -- at most as many hits as atoms
 few-hits : (names : Names) (t : List ℕ) (m : Machine) → length (hitsIn names t m) ≤ stored m
 unfolding hitsIn
-few-hits names t m = simp length-map (omega (arith, few-filter (λ s. isHit (treeValue (termValue names (s .place)) t)) (atomsOf m), atoms-stored m))
+few-hits names t m = simp length-map (omega (arith, few-filter (λ s. isHit (valueFrom names 1 t s)) (atomsOf m), atoms-stored m))
 
 -- the walk over a whole store
 pub whole-ready : (w t : List ℕ) (total : ℕ) → Asked w t total → (end : ℕ) (at : RecordNumbers) → end ≡ length (records (held w)) → at ≡ start → Ready w 0 end t 0 at
@@ -288,7 +288,7 @@ words-five (s ∷ ss) a =
 hits-five : (names : Names) (t : List ℕ) (m : Machine) → length (hitWords (hitsIn names t m)) ≡ 5 * length (hitsIn names t m)
 unfolding hitsIn
 hits-five names t m =
-    let p : Site → Bool = λ s. isHit (treeValue (termValue names (s .place)) t) in
+    let p : Site → Bool = λ s. isHit (valueFrom names 1 t s) in
     let e = words-five (filter p (atomsOf m)) (filter-all _ p (atomsOf m) (five-numbers m)) in
     simp length-map e
 
@@ -309,41 +309,44 @@ module _ (w t : List ℕ) where
     unfolding findRun hitsOf
     no-tree out h = rw (is-held .read, tree-refused (readTree t) _ (sym g ∙ h))
 
-  module _ (out : List ℕ) (total : ℕ) (asked : Asked w t total) (residues atoms : List ℕ) (one : residues ≡ tables .residues) (two : atoms ≡ tables .atoms) (room : ℕ) (is : room ≡ length out / 5) (b : Bool) (has : b ≡ leb (length (hitsIn (record { residues = residues; atoms = atoms }) t (held w))) room) where
-    all : List (List ℕ)
-    all = hitsIn tables t (held w)
+    module _ (h : x ≡ CheckedTree.the-variants.Good) (residues atoms : List ℕ) (one : residues ≡ tables .residues) (two : atoms ≡ tables .atoms) where
+      pub found-run : {y : List ℕ × List ℕ} (out : List ℕ) → y ≡ written out (ok (hitsIn (record { residues = residues; atoms = atoms }) t (held w))) → y ≡ findRun w t out
+      unfolding findRun hitsOf
+      found-run out k = k ∙ rw (one, two, is-held .read, tree-then (readTree t) (ok (hitsIn tables t (held w))) (sym g ∙ h))
 
-    same : hitsIn (record { residues = residues; atoms = atoms }) t (held w) ≡ all
-    unfolding all
-    same = ap (λ (x : Names). hitsIn x t (held w)) (λ i. record { residues = one i; atoms = two i })
+  module _ (out : List ℕ) (total : ℕ) (asked : Asked w t total) (residues atoms : List ℕ) (room : ℕ) (is : room ≡ length out / 5) (b : Bool)
+      (has : b ≡ leb (length (hitsIn (record { residues = residues; atoms = atoms }) t (held w))) room) where
+    all : List (List ℕ)
+    all = hitsIn (record { residues = residues; atoms = atoms }) t (held w)
 
     all-five : length (hitWords all) ≡ 5 * length all
     unfolding all
-    all-five = hits-five tables t (held w)
+    all-five = hits-five (record { residues = residues; atoms = atoms }) t (held w)
 
-    is-run : findRun w t out ≡ written out (ok all)
-    unfolding findRun hitsOf all
-    is-run = rw (asked .store, tree-then (readTree t) (ok (hitsIn tables t (held w))) (asked .tree))
+    enough-is : b ≡ leb (length all) room
+    unfolding all
+    enough-is = has
 
-    pub no-room : b ≡ false → (foundNumbers (Found.the-variants.Refused ShortOutput), out) ≡ findRun w t out
-    no-room f =
-        let l = leb-false (length all) room (ap (λ (x : List (List ℕ)). leb (length x) room) (sym same) ∙ sym has ∙ f) in
-        sym (is-run ∙ rw (lt-leb (5 * length all) (length out) (omega arith)))
+    pub no-room : b ≡ false → (foundNumbers (Found.the-variants.Refused ShortOutput), out) ≡ written out (ok (hitsIn (record { residues = residues; atoms = atoms }) t (held w)))
+    unfolding all
+    no-room f = let l = leb-false (length all) room (sym has ∙ f) in sym (rw (lt-leb (5 * length all) (length out) (omega arith)))
 
     module _ (f : b ≡ true) (end : ℕ) (at : RecordNumbers) (ends : end ≡ length (records (held w))) (starts : at ≡ start) where
       found-all : foundIn w 0 end t 1 0 at residues atoms ≡ all
-      found-all = whole-hits w t residues atoms total asked end at ends starts ∙ same
+      unfolding all
+      found-all = whole-hits w t residues atoms total asked end at ends starts
 
       fits : 5 * length all ≤ length out
-      fits = let l = leb-true (length all) room (ap (λ (x : List (List ℕ)). leb (length x) room) (sym same) ∙ sym has ∙ f) in omega arith
+      fits = let l = leb-true (length all) room (sym enough-is ∙ f) in omega arith
 
       pub has-room : 5 * length (foundIn w 0 end t 1 0 at residues atoms) ≤ length out
       has-room = rw found-all fits
 
-      pub found-law : (r : ℕ) (out′ : List ℕ) → (r, out′) ≡ wrote (foundIn w 0 end t 1 0 at residues atoms) out → (foundNumbers (Found.the-variants.Hits r), out′) ≡ findRun w t out
-      unfolding over
+      pub found-law : (r : ℕ) (out′ : List ℕ) → (r, out′) ≡ wrote (foundIn w 0 end t 1 0 at residues atoms) out
+          → (foundNumbers (Found.the-variants.Hits r), out′) ≡ written out (ok (hitsIn (record { residues = residues; atoms = atoms }) t (held w)))
+      unfolding over all
       found-law r out′ p =
           let z : 0 + length (hitWords all) ≡ 5 * length all = omega (arith, all-five) in
           let q : (r, out′) ≡ wrote all out = p ∙ ap (λ (x : List (List ℕ)). wrote x out) found-all in
           ap (λ (x : ℕ × List ℕ). (foundNumbers (Found.the-variants.Hits (x .0)), x .1)) q
-          ∙ rw z (sym (is-run ∙ rw (le-leb (5 * length all) (length out) fits)))
+          ∙ rw z (sym (rw (le-leb (5 * length all) (length out) fits)))

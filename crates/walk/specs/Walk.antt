@@ -7,8 +7,8 @@ use lib.ListN.{length}
 use Rattle.machine.specs.Record.{Words, kind}
 use Rattle.machine.specs.Store.{stored}
 use Rattle.machine.specs.Kleene.{isHit}
-use Rattle.machine.specs.Query.{Names, readTree, treeValue, termValue, window}
-use Rattle.machine.specs.Find.{Site, hitWords}
+use Rattle.machine.specs.Query.{Names, readTree}
+use Rattle.machine.specs.Find.{Site, valueFrom, hitWords}
 use Rattle.machine.specs.declared.RecordNumbers.{RecordNumbers}
 use Rattle.laws.specs.Lists.{All}
 use Rattle.moves.specs.Over.{over}
@@ -22,7 +22,7 @@ use Rattle.walk.specs.PrunedPass.{prunedPass}
 
 -- a tree isn't false, where the kinds from low on are known as far as the site goes
 unfoldable pub mayHit : ℕ → Names → List ℕ → Site → Bool
-mayHit low names t s = isHit (treeValue (termValue names (window low 5 (s .place))) t)
+mayHit low names t s = isHit (valueFrom names low t s)
 
 -- the hits among the records from number `from` up to `end`
 unfoldable pub foundIn : List ℕ → ℕ → ℕ → List ℕ → ℕ → ℕ → RecordNumbers → List ℕ → List ℕ → List (List ℕ)

@@ -10,8 +10,8 @@ ghost use mathlib.Core.Path.{_≡_};
 ghost use Prim.Native.Nat.{_+_, _*_, _≤_};
 ghost use lib.ListN.{length};
 ghost use lib.Dec.{leb};
-ghost use Rattle.machine.specs.Answer.{foundNumbers};
-ghost use Rattle.machine.specs.Find.{hitsIn, findRun};
+ghost use Rattle.machine.specs.Answer.{ok, foundNumbers};
+ghost use Rattle.machine.specs.Find.{hitsIn, written, findRun};
 ghost use Rattle.moves.specs.Over.{over};
 ghost use Rattle.seek.specs.Seek.{held};
 ghost use Rattle.terms.specs.Levels.{fiveNumbers};
@@ -173,15 +173,21 @@ fn enough(
         <= room
 }
 
-// A store of that many atoms, and a tree. "10 output shorter than 5 words per hit" leaves the output as it was.
-fn find_checked(store: &[u64], tree: &[u64], total: u64, out: &mut [u64]) -> Found
+// A store of that many atoms, a tree and two lists of names. "10 output shorter than 5 words per hit" leaves the output as it was.
+fn find_checked(
+    store: &[u64],
+    tree: &[u64],
+    total: u64,
+    residues: &[u64],
+    atoms: &[u64],
+    out: &mut [u64],
+) -> Found
     requires { ⌜ Asked (now store) (now tree) total ⌝ }
-    ensures { λ r. ⌜ (foundNumbers r, now (out .exit)) ≡ findRun (now (store .entry)) (now (tree .entry)) (now (out .entry)) ⌝ }
+    ensures { λ r. ⌜ (foundNumbers r, now (out .exit)) ≡ written (now (out .entry))
+        (ok (hitsIn (record { residues = now (residues .entry); atoms = now (atoms .entry) }) (now (tree .entry)) (held (now (store .entry))))) ⌝ }
 {
-    let residues = reference_tables::amino_acids();
-    let atoms = reference_tables::backbone_names();
     let room = out.len() as u64 / 5;
-    if enough(store, tree, total, room, &residues, &atoms) {
+    if enough(store, tree, total, room, residues, atoms) {
         let end = seek::record_count(store);
         let low = Record::MODEL;
         let found = find_in(
@@ -192,8 +198,8 @@ fn find_checked(store: &[u64], tree: &[u64], total: u64, out: &mut [u64]) -> Fou
             low,
             0,
             descent::start(),
-            &residues,
-            &atoms,
+            residues,
+            atoms,
             out,
         );
         Found::Hits(found)
@@ -213,7 +219,11 @@ pub fn find(store: &[u64], tree: &[u64], out: &mut [u64]) -> Found
             let read = search::check_tree(tree);
             match read {
                 CheckedTree::Refused(c) => Found::Refused(c),
-                CheckedTree::Good => find_checked(store, tree, total, out),
+                CheckedTree::Good => {
+                    let residues = reference_tables::amino_acids();
+                    let atoms = reference_tables::backbone_names();
+                    find_checked(store, tree, total, &residues, &atoms, out)
+                }
             }
         }
     }
