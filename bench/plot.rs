@@ -19,7 +19,7 @@ fn rows(residues: u64) -> [Vec<Row>; 2] {
     let pdb = structure::pdb(residues);
     let trees = find::trees().into_iter().filter(|t| TREES.contains(&t.name));
     let finds = trees.map(|t| {
-        let times = find::times(&words, &pdb, &t.search, 30);
+        let times = find::times(&words, &[], &t.search, 30, |s| pdb.find(s));
         us(t.name, (times.port, times.of_crate))
     });
     let chosen = edits::edits(residues).into_iter().filter(|e| EDITS.contains(&e.name));

@@ -84,6 +84,27 @@ pub fn words(residues: u64, spare: usize) -> Vec<u64> {
     w
 }
 
+// The words of so many such models, all alike, with no room to spare.
+pub fn models(models: usize, residues: u64) -> Vec<u64> {
+    let one = words(residues, 0);
+    let mut w = one[..one.len() - 1].repeat(models);
+    w.push(w.len() as u64);
+    w
+}
+
+// The number of records up to a start that is there, its own among them, by one pass over their kinds.
+pub fn records_to(words: &[u64], start: &[u64]) -> usize {
+    let mut record = 0;
+    for (kind, index) in (1..).zip(start) {
+        let mut left = index + 1;
+        while left > 0 {
+            left -= (words[12 * record] == kind) as u64;
+            record += 1;
+        }
+    }
+    record
+}
+
 // The least time of some runs, in nanoseconds.
 pub fn least(runs: usize, mut f: impl FnMut()) -> f64 {
     (0..runs)

@@ -21,11 +21,17 @@ pub fn add(model: &mut Model, atom: Atom, a: &AtomAt) {
 }
 
 pub fn pdb(residues: u64) -> PDB {
-    let mut model = Model::new(1);
-    for a in store::atoms(residues) {
-        add(&mut model, atom(&a), &a);
-    }
+    models(1, residues)
+}
+
+// So many models, all alike.
+pub fn models(models: usize, residues: u64) -> PDB {
+    let atoms = store::atoms(residues);
     let mut pdb = PDB::new();
-    pdb.add_model(model);
+    for _ in 0..models {
+        let mut model = Model::new(1);
+        atoms.iter().for_each(|a| add(&mut model, atom(a), a));
+        pdb.add_model(model);
+    }
     pdb
 }

@@ -30,7 +30,7 @@
 
 /* The version of this header, as one number too: major * 1,000,000 + minor * 1,000 + patch. */
 #define JUBRELTI_VERSION_MAJOR 0
-#define JUBRELTI_VERSION_MINOR 5
+#define JUBRELTI_VERSION_MINOR 6
 #define JUBRELTI_VERSION_PATCH 0
 #define JUBRELTI_VERSION (JUBRELTI_VERSION_MAJOR * 1000000 + JUBRELTI_VERSION_MINOR * 1000 + JUBRELTI_VERSION_PATCH)
 
@@ -172,6 +172,22 @@ uint64_t jubrelti_copy(const uint64_t *JUBRELTI_RESTRICT from, size_t from_lengt
    Record r stands at store + 12 * r. Words of the output past the hits stay. */
 JubreltiFind jubrelti_find(const uint64_t *JUBRELTI_RESTRICT store, size_t length, const uint64_t *JUBRELTI_RESTRICT tree,
                            size_t tree_length, uint64_t *JUBRELTI_RESTRICT out, size_t out_length);
+
+/* The same among the atoms that stand under a position; under one that is empty there are no hits. Terms of the position's own level
+   and above are undecided, so that a chain's id asked of a chain excludes nothing; from a conformer, backbone and side chain go by
+   the atom's name alone. A hit has all five record numbers here too. */
+JubreltiFind jubrelti_model_find(const uint64_t *JUBRELTI_RESTRICT store, size_t length, uint64_t model,
+                                 const uint64_t *JUBRELTI_RESTRICT tree, size_t tree_length, uint64_t *JUBRELTI_RESTRICT out,
+                                 size_t out_length);
+JubreltiFind jubrelti_chain_find(const uint64_t *JUBRELTI_RESTRICT store, size_t length, uint64_t model, uint64_t chain,
+                                 const uint64_t *JUBRELTI_RESTRICT tree, size_t tree_length, uint64_t *JUBRELTI_RESTRICT out,
+                                 size_t out_length);
+JubreltiFind jubrelti_residue_find(const uint64_t *JUBRELTI_RESTRICT store, size_t length, uint64_t model, uint64_t chain,
+                                   uint64_t residue, const uint64_t *JUBRELTI_RESTRICT tree, size_t tree_length,
+                                   uint64_t *JUBRELTI_RESTRICT out, size_t out_length);
+JubreltiFind jubrelti_conformer_find(const uint64_t *JUBRELTI_RESTRICT store, size_t length, uint64_t model, uint64_t chain,
+                                     uint64_t residue, uint64_t conformer, const uint64_t *JUBRELTI_RESTRICT tree,
+                                     size_t tree_length, uint64_t *JUBRELTI_RESTRICT out, size_t out_length);
 
 /* The atom of a serial number and alternative location in the first model. */
 JubreltiLookup jubrelti_binary_find_atom(const uint64_t *store, size_t length, uint64_t serial, uint64_t location_flag,

@@ -1,6 +1,6 @@
-// compare [SEED] [LISTS] [READER]: the port beside pdbtbx's own files and a plain reading of document 01: small texts, bad names, trees and
-// floats in full, then random lists of calls, each also as one call; and its PDB lines beside a plain reading of change request §1 and, where the
-// program READER is given, read back by gemmi.
+// compare [SEED] [LISTS] [READER]: the port beside pdbtbx's own files and a plain reading of document 01: small texts, bad names, trees,
+// starts and floats in full, then random lists of calls, each also as one call; and its PDB lines beside a plain reading of change request
+// §1 and, where the program READER is given, read back by gemmi.
 mod fitting;
 mod floats;
 mod identifiers;
@@ -16,12 +16,14 @@ mod random;
 mod read_back;
 mod reading;
 mod sides;
+mod starts;
 mod text;
 mod trees;
 mod writing;
 use port::Call;
 use random::Random;
 use sides::{Counts, Sides};
+use starts::Spoilt;
 
 // The same calls as one list: the same answers and the same words. Then the list with some word changed.
 fn as_one(r: &mut Random, length: usize, calls: &[Call], answers: &[u64], after: &[u64]) -> u64 {
@@ -47,7 +49,7 @@ fn as_one(r: &mut Random, length: usize, calls: &[Call], answers: &[u64], after:
 }
 
 // One random list; the number of spoilt ones made from it. The package reads at its end and at every eighth call.
-fn list(r: &mut Random, counts: &mut Counts, reads: &mut reading::Counts, writes: &mut writing::Counts) -> u64 {
+fn list(r: &mut Random, counts: &mut Counts, stores: &mut Spoilt, reads: &mut reading::Counts, writes: &mut writing::Counts) -> u64 {
     let length = 1 + r.below(30 * 12) as usize;
     let mut sides = Sides::open((0..length).map(|_| r.word()).collect());
     let (mut calls, mut answers) = (Vec::new(), Vec::new());
@@ -58,14 +60,15 @@ fn list(r: &mut Random, counts: &mut Counts, reads: &mut reading::Counts, writes
         calls.push(call);
         let tree = r.tree();
         let room = if r.one_in(8) { r.below(20) as usize } else { length };
-        let found = sides.find(&tree, room, counts);
+        let start = r.start(&sides.judges.machine);
+        let found = sides.find(&start, &tree, room, counts);
         let (serial, location) = (r.small(), r.optional());
         let looked_up = sides.lookup(serial, &location, counts);
         if step % 8 == 7 {
             reading::compare(&sides, reads);
             reading::lookup(&sides, serial, &location, &looked_up, reads);
             if found.result == 0 {
-                reading::hits(&sides, &tree, reads);
+                reading::hits(&sides, &start, &tree, reads);
             }
         }
     }
@@ -73,6 +76,7 @@ fn list(r: &mut Random, counts: &mut Counts, reads: &mut reading::Counts, writes
     writing::compare(&sides.store, &sides.judges.machine, writes);
     let other = r.below(30 * 12);
     sides.copy((0..other).map(|_| r.word()).collect());
+    (0..4).for_each(|_| starts::compare_spoilt(r, &sides, stores));
     as_one(r, length, &calls, &answers, &sides.store)
 }
 
@@ -86,14 +90,17 @@ fn main() {
     println!("characters above 127: the listed blanks differ, and no other");
     names::compare().print("names of an addition, each good or bad in three ways");
     trees::compare().print("small trees in full");
+    starts::compare();
     floats::compare().print("floats, each against each");
     writing::compare_limits();
     let (decimals, halfway) = writing::compare_formatting(&mut Random::new(seed));
     println!("{decimals} decimals, in the plain reading as in Rust's own formatting, but for {halfway} that lie halfway");
-    let (mut counts, mut reads, mut writes) = (Counts::default(), reading::Counts::default(), writing::Counts::default());
+    let (mut counts, mut stores) = (Counts::default(), Spoilt::default());
+    let (mut reads, mut writes) = (reading::Counts::default(), writing::Counts::default());
     let random = |i: u64| Random::new(seed.wrapping_mul(1_000_003).wrapping_add(i));
-    let spoilt: u64 = (0..lists).map(|i| list(&mut random(i), &mut counts, &mut reads, &mut writes)).sum();
+    let spoilt: u64 = (0..lists).map(|i| list(&mut random(i), &mut counts, &mut stores, &mut reads, &mut writes)).sum();
     counts.print(&format!("seed {seed}, {lists} random lists and {spoilt} spoilt ones"));
+    stores.print("the stores that they leave, each spoilt in four ways");
     let mut places = Counts::default();
     (0..lists / 10).for_each(|i| reading::compare_places(&mut random(i), &mut places, &mut reads));
     places.print(&format!("seed {seed}, {} structures of atoms in random places", lists / 10));

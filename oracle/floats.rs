@@ -59,10 +59,10 @@ pub fn compare() -> Counts {
     let room = sides.store.len();
     for p in &all {
         for (equal, range) in [(16, 17), (18, 19)] {
-            sides.find(&[equal, *p, 0], room, &mut counts);
-            sides.find(&[equal, *p, 0, 26, 0, 0], room, &mut counts);
+            sides.find(&[], &[equal, *p, 0], room, &mut counts);
+            sides.find(&[], &[equal, *p, 0, 26, 0, 0], room, &mut counts);
             for q in &all {
-                sides.find(&[range, *p, *q], room, &mut counts);
+                sides.find(&[], &[range, *p, *q], room, &mut counts);
             }
         }
     }

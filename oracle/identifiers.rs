@@ -57,7 +57,7 @@ fn pair(place: usize, first: &[u8], second: &[u8], counts: &mut Counts) {
     sides.edit(&addition(place, first), counts);
     sides.edit(&addition(place, second), counts);
     for term in terms(place, second) {
-        sides.find(&term, WORDS, counts);
+        sides.find(&[], &term, WORDS, counts);
     }
     sides.lookup(SERIAL, &present(second), counts);
     sides.edit(&removal(place, second), counts);

@@ -221,8 +221,9 @@ macro_rules! searches {
 
 searches!(pdbtbx);
 
-// The hits, each part numbered as its record is.
-pub fn find(p: &PDB, tree: &plain::Tree) -> Vec<[u64; 5]> {
+// The hits of the crate's find at a start of none to four indexes, each part numbered as its record is. The crate's hits say what stands
+// below the start; the start and what stands above it are put before that.
+pub fn find(p: &PDB, start: &[u64], tree: &plain::Tree) -> Vec<[u64; 5]> {
     use pdbtbx::{ContainsAtomConformer, ContainsAtomConformerResidue, ContainsAtomConformerResidueChain, ContainsAtomConformerResidueChainModel};
     let mut numbers = std::collections::HashMap::new();
     let mut number = |part: *const ()| {
@@ -242,16 +243,26 @@ pub fn find(p: &PDB, tree: &plain::Tree) -> Vec<[u64; 5]> {
             }
         }
     }
-    let of = |part: *const ()| numbers[&part];
-    p.find(search(tree))
-        .map(|h| {
-            [
-                of(h.model() as *const _ as *const ()),
-                of(h.chain() as *const _ as *const ()),
-                of(h.residue() as *const _ as *const ()),
-                of(h.conformer() as *const _ as *const ()),
-                of(h.atom() as *const _ as *const ()),
-            ]
-        })
-        .collect()
+    macro_rules! numbered {
+        ($($part:expr),*) => { [$(numbers[&($part as *const _ as *const ())]),*] };
+    }
+    let search = search(tree);
+    let index = |level: usize| start[level] as usize;
+    if start.is_empty() {
+        return p.find(search).map(|h| numbered!(h.model(), h.chain(), h.residue(), h.conformer(), h.atom())).collect();
+    }
+    let m = p.model(index(0)).unwrap();
+    if start.len() == 1 {
+        return m.find(search).map(|h| numbered!(m, h.chain(), h.residue(), h.conformer(), h.atom())).collect();
+    }
+    let c = m.chain(index(1)).unwrap();
+    if start.len() == 2 {
+        return c.find(search).map(|h| numbered!(m, c, h.residue(), h.conformer(), h.atom())).collect();
+    }
+    let r = c.residue(index(2)).unwrap();
+    if start.len() == 3 {
+        return r.find(search).map(|h| numbered!(m, c, r, h.conformer(), h.atom())).collect();
+    }
+    let f = r.conformer(index(3)).unwrap();
+    f.find(search).map(|a| numbered!(m, c, r, f, a)).collect()
 }

@@ -144,6 +144,57 @@ pub fn lay_out(m: &Machine, length: usize) -> Vec<u64> {
     w
 }
 
+fn good_values(v: &NewAtom) -> bool {
+    [v.x, v.y, v.z, v.occupancy, v.b_factor].iter().all(|bits| f64::from_bits(*bits).is_finite()) && v.element <= 118 && v.hetero <= 1
+}
+
+// A word is in stored form where its rule, given the text that the word packs, would store that very word.
+fn is_stored(word: u64, rule: fn(&[u8]) -> Option<u64>) -> bool {
+    rule(&text_of(word)) == Some(word)
+}
+
+fn is_stored_or_absent(word: u64) -> bool {
+    word == 0 || is_stored(word, raised_name)
+}
+
+// Below what stands last; none without a parent, or where a word isn't good.
+fn put(m: &mut Machine, w: &[u64]) -> Option<()> {
+    if w[0] == 1 {
+        m.push(Model { serial: w[1], chains: Vec::new() });
+        return Some(());
+    }
+    let chains = &mut m.last_mut()?.chains;
+    if w[0] == 2 {
+        chains.push(Chain { id: w[1], residues: Vec::new() });
+        return is_stored(w[1], chain_id).then_some(());
+    }
+    let residues = &mut chains.last_mut()?.residues;
+    if w[0] == 3 {
+        residues.push(Residue { serial: w[1], code: w[2], conformers: Vec::new() });
+        return is_stored_or_absent(w[2]).then_some(());
+    }
+    let conformers = &mut residues.last_mut()?.conformers;
+    if w[0] == 4 {
+        conformers.push(Conformer { name: w[1], location: w[2], atoms: Vec::new() });
+        return (is_stored(w[1], raised_name) && is_stored_or_absent(w[2])).then_some(());
+    }
+    let [serial, name, x, y, z, occupancy, b_factor, element, charge, hetero] = w[1..11].try_into().unwrap();
+    let values = NewAtom { serial, x, y, z, occupancy, b_factor, element, charge, hetero };
+    conformers.last_mut()?.atoms.push(Atom { name, values });
+    (is_stored(name, atom_name) && good_values(&values)).then_some(())
+}
+
+// The machine that words hold. Every word that isn't named, and every one between the records and the trailer, is as `lay_out` has it.
+pub fn read_store(words: &[u64]) -> Result<Machine, u64> {
+    if words.is_empty() || words.len() > 1_200_001 {
+        return Err(1);
+    }
+    let end = usize::try_from(words[words.len() - 1]).ok().filter(|end| end % 12 == 0 && *end < words.len()).ok_or(2u64)?;
+    let mut m = Machine::new();
+    words[..end].chunks(12).try_for_each(|w| put(&mut m, w)).ok_or(2u64)?;
+    if lay_out(&m, words.len()) == words { Ok(m) } else { Err(2) }
+}
+
 fn atoms(m: &Machine) -> u64 {
     m.iter().flat_map(|m| &m.chains).flat_map(|c| &c.residues).flat_map(|r| &r.conformers).map(|f| f.atoms.len() as u64).sum()
 }
@@ -192,10 +243,6 @@ fn room(m: &Machine, new: usize, length: usize) -> Result<(), u64> {
     if records(m).len() / 12 + new > (length - 1) / 12 { Err(8) } else { Ok(()) }
 }
 
-fn finite(bits: u64) -> bool {
-    f64::from_bits(bits).is_finite()
-}
-
 #[allow(clippy::too_many_arguments)]
 fn add_atom(
     m: &mut Machine,
@@ -215,8 +262,7 @@ fn add_atom(
     let conformer_name = raised_name(conformer).ok_or(15u64)?;
     let location_word = location(location_given).ok_or(15u64)?;
     let name = atom_name(name).ok_or(16u64)?;
-    let finite = [v.x, v.y, v.z, v.occupancy, v.b_factor].iter().all(|b| finite(*b));
-    if !finite || v.element > 118 || v.hetero > 1 {
+    if !good_values(v) {
         return Err(7);
     }
     let chains = &m[model as usize].chains;
@@ -449,10 +495,16 @@ fn atom_term((code, p, q): (u64, u64, u64), a: &Atom) -> Option<bool> {
     }
 }
 
-fn term(t: (u64, u64, u64), m: &Model, c: &Chain, r: &Residue, f: &Conformer, a: &Atom) -> Option<bool> {
+// From a start of so many indexes. Change request §4: "Terms of the start's own level and above stay undecided", and "From a conformer,
+// Backbone and SideChain go by the atom's name alone".
+fn term(t: (u64, u64, u64), start: usize, m: &Model, c: &Chain, r: &Residue, f: &Conformer, a: &Atom) -> Option<bool> {
     let (code, p, q) = t;
     let serial = r.serial as i64;
     match code {
+        1 | 2 if start >= 1 => None,
+        3 | 4 if start >= 2 => None,
+        5..=8 if start >= 3 => None,
+        9..=11 if start >= 4 => None,
         1 => Some(m.serial == p),
         2 => Some(p <= m.serial && m.serial <= q),
         3 => Some(c.id == p),
@@ -464,28 +516,28 @@ fn term(t: (u64, u64, u64), m: &Model, c: &Chain, r: &Residue, f: &Conformer, a:
         9 => Some(f.name == p),
         10 => Some(f.location == p),
         11 => Some(f.name == p && f.location == q),
-        20 | 21 if !among(&AMINO_ACIDS, f.name) => Some(false),
+        20 | 21 if start < 4 && !among(&AMINO_ACIDS, f.name) => Some(false),
         _ => atom_term(t, a),
     }
 }
 
-// The five record numbers of each stored atom, with its place.
-fn each_atom(m: &Machine, mut f: impl FnMut([u64; 5], &Model, &Chain, &Residue, &Conformer, &Atom)) {
+// The four indexes above each stored atom, its five record numbers, and its place.
+fn each_atom(m: &Machine, mut visit: impl FnMut([u64; 4], [u64; 5], &Model, &Chain, &Residue, &Conformer, &Atom)) {
     let mut n = 0;
     let mut next = || {
         n += 1;
         n - 1
     };
-    for model in m {
+    for (m, model) in (0..).zip(m) {
         let i = next();
-        for chain in &model.chains {
-            let c = next();
-            for residue in &chain.residues {
-                let r = next();
-                for conformer in &residue.conformers {
-                    let k = next();
+        for (c, chain) in (0..).zip(&model.chains) {
+            let j = next();
+            for (r, residue) in (0..).zip(&chain.residues) {
+                let k = next();
+                for (f, conformer) in (0..).zip(&residue.conformers) {
+                    let l = next();
                     for atom in &conformer.atoms {
-                        f([i, c, r, k, next()], model, chain, residue, conformer, atom);
+                        visit([m, c, r, f], [i, j, k, l, next()], model, chain, residue, conformer, atom);
                     }
                 }
             }
@@ -493,22 +545,52 @@ fn each_atom(m: &Machine, mut f: impl FnMut([u64; 5], &Model, &Chain, &Residue, 
     }
 }
 
-pub fn find(m: &Machine, tree: &[u64], out: &mut [u64]) -> Find {
-    let tree = match read_tree(tree) {
-        Ok(tree) => tree,
-        Err(result) => return Find { result, hits: 0 },
-    };
+// Every position of so many indexes, from the model down.
+pub fn positions(m: &Machine, indexes: usize) -> Vec<Vec<u64>> {
+    let mut all = vec![vec![]];
+    for (i, model) in (0..).zip(m) {
+        all.push(vec![i]);
+        for (j, chain) in (0..).zip(&model.chains) {
+            all.push(vec![i, j]);
+            for (k, residue) in (0..).zip(&chain.residues) {
+                all.push(vec![i, j, k]);
+                all.extend((0..).zip(&residue.conformers).map(|(l, _)| vec![i, j, k, l]));
+            }
+        }
+    }
+    all.retain(|p| p.len() == indexes);
+    all
+}
+
+// How many parts stand right below a position of none to three indexes.
+pub fn children(m: &Machine, parent: &[u64]) -> u64 {
+    positions(m, parent.len() + 1).iter().filter(|p| p.starts_with(parent)).count() as u64
+}
+
+fn hits(m: &Machine, start: &[u64], tree: &[u64]) -> Result<Vec<u64>, u64> {
+    if positions(m, start.len()).iter().all(|p| p != start) {
+        return Err(5);
+    }
+    let tree = read_tree(tree)?;
     let mut hits = Vec::new();
-    each_atom(m, |at, m, c, r, f, a| {
-        if value(&tree, &|t| term(t, m, c, r, f, a)) != Some(false) {
+    each_atom(m, |above, at, m, c, r, f, a| {
+        if above.starts_with(start) && value(&tree, &|t| term(t, start.len(), m, c, r, f, a)) != Some(false) {
             hits.extend(at);
         }
     });
-    if hits.len() > out.len() {
-        return Find { result: 10, hits: 0 };
+    Ok(hits)
+}
+
+// A refusal has no hits and leaves the output.
+pub fn find(m: &Machine, start: &[u64], tree: &[u64], out: &mut [u64]) -> Find {
+    match hits(m, start, tree) {
+        Err(result) => Find { result, hits: 0 },
+        Ok(hits) if hits.len() > out.len() => Find { result: 10, hits: 0 },
+        Ok(hits) => {
+            out[..hits.len()].copy_from_slice(&hits);
+            Find { result: 0, hits: hits.len() as u64 / 5 }
+        }
     }
-    out[..hits.len()].copy_from_slice(&hits);
-    Find { result: 0, hits: hits.len() as u64 / 5 }
 }
 
 // ---- lookup

@@ -4,7 +4,7 @@
 mod ffi;
 
 #[allow(unused_imports)]
-pub use ffi::{apply, check, copy, find, open, write_pdb, Apply, Edit, Find, Lookup, NewAtom, Write};
+pub use ffi::{apply, check, copy, open, write_pdb, Apply, Edit, Find, Lookup, NewAtom, Write};
 
 // An optional text: its flag, and its bytes.
 #[derive(Clone, Debug, PartialEq)]
@@ -21,6 +21,18 @@ impl Optional {
 
 pub fn binary_find_atom(store: &[u64], serial: u64, location: &Optional) -> Lookup {
     ffi::binary_find_atom(store, serial, location.lent())
+}
+
+// From a start of none to four indexes, from the model down; none is the whole store.
+pub fn find(store: &[u64], start: &[u64], tree: &[u64], out: &mut [u64]) -> Find {
+    match *start {
+        [] => ffi::find(store, tree, out),
+        [m] => ffi::model_find(store, m, tree, out),
+        [m, c] => ffi::chain_find(store, [m, c], tree, out),
+        [m, c, r] => ffi::residue_find(store, [m, c, r], tree, out),
+        [m, c, r, f] => ffi::conformer_find(store, [m, c, r, f], tree, out),
+        _ => unreachable!("a start of {} indexes", start.len()),
+    }
 }
 
 // "The sixteen edit calls", with the arguments other than the store.

@@ -1,5 +1,5 @@
 // Random calls and trees, biased to collisions, empties, joins and bad input.
-use crate::plain::{pack, Machine};
+use crate::plain::{children, pack, positions, Machine};
 use crate::port::{Call, NewAtom, Optional};
 
 pub struct Random(u64);
@@ -102,6 +102,28 @@ impl Random {
         p[3] = self.full(conformers, |f| f.atoms.is_empty());
         p[4] = self.index(conformers.get(p[3] as usize).map_or(0, |f| f.atoms.len()));
         p
+    }
+
+    // An index past the end of a list of n; also one whose lower 32 bits are an index of the list.
+    fn beyond(&mut self, n: u64) -> u64 {
+        let in_32_bits = self.below(n + 1) | 1 << 32;
+        let large = self.word() | 1 << 63;
+        self.pick(&[n, n, n + 1, in_32_bits, 1 << 31, 1 << 60, large, u64::MAX - 1, u64::MAX])
+    }
+
+    // A start of none to four indexes, from the model down, or of fewer where nothing stands so low. One of three that have an index is
+    // missing: at some level its index lies past the end, and below that its indexes are any.
+    pub fn start(&mut self, m: &Machine) -> Vec<u64> {
+        let indexes = self.below(5);
+        let is_missing = indexes > 0 && self.one_in(3);
+        let standing = if is_missing { self.below(indexes) } else { indexes };
+        let all = (0..=standing as usize).rev().map(|n| positions(m, n)).find(|all| !all.is_empty()).unwrap();
+        let mut start = all[self.below(all.len() as u64) as usize].clone();
+        if is_missing {
+            start.push(self.beyond(children(m, &start)));
+            start.resize_with(indexes as usize, || self.small());
+        }
+        start
     }
 
     // Two positions of so many indexes, mostly not the same.

@@ -276,13 +276,28 @@ pub fn compare(sides: &Sides, counts: &mut Counts) {
     counts.records += both.ours.len() as u64;
 }
 
-// The hits of a tree that was accepted.
-pub fn hits(sides: &Sides, tree: &[u64], counts: &mut Counts) {
+fn find<'a>(store: &'a Store<&[u64]>, start: &[u64], search: jubrelti::Search) -> jubrelti::Hits<'a> {
+    let start: Vec<usize> = start.iter().map(|index| *index as usize).collect();
+    match start[..] {
+        [] => store.find(search),
+        [m] => store.model_find(m, search),
+        [m, c] => store.chain_find([m, c], search),
+        [m, c, r] => store.residue_find([m, c, r], search),
+        [m, c, r, f] => store.conformer_find([m, c, r, f], search),
+        _ => unreachable!("a start of {} indexes", start.len()),
+    }
+    .unwrap()
+}
+
+// The hits of a tree that was accepted from a start. The crate's say only what stands below the start, so their atoms are looked up in the
+// whole structure.
+pub fn hits(sides: &Sides, start: &[u64], tree: &[u64], counts: &mut Counts) {
     let Some(pdb) = &sides.judges.pdb else { return };
     let both = Both::new(&sides.store, pdb);
     let tree = plain::read_tree(tree).unwrap();
-    let theirs: Vec<_> = pdb.find(original::search(&tree)).collect();
-    let ours = both.store.find(search(&tree)).unwrap();
+    let atoms: HashMap<usize, _> = pdb.atoms_with_hierarchy().map(|h| (both.theirs[&address(h.atom())], h)).collect();
+    let theirs: Vec<_> = original::find(pdb, start, &tree).iter().map(|records| &atoms[&(records[4] as usize)]).collect();
+    let ours = find(&both.store, start, search(&tree));
     assert_eq!(ours.len(), theirs.len(), "the number of hits");
     let positions = positions(pdb);
     ours.clone().zip(&theirs).for_each(|(a, b)| both.hit(&a, b, &positions));

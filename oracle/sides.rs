@@ -1,5 +1,6 @@
 // The port beside its judges: everything is compared after each call, and a disagreement stops the run and prints the call.
 use crate::judges::Judges;
+use crate::plain::Machine;
 use crate::port::{self, Call, Edit, Find, Lookup, Optional};
 use crate::{original, plain};
 
@@ -9,7 +10,9 @@ pub struct Counts {
     accepted: u64,
     edits_by_crate: u64,
     finds: u64,
-    finds_by_crate: u64,
+    // By the start's number of indexes.
+    finds_by_crate: [u64; 5],
+    no_such_start: u64,
     lookups: u64,
 }
 
@@ -17,8 +20,25 @@ impl Counts {
     pub fn print(&self, name: &str) {
         println!("{name}: no disagreement");
         println!("  edits {}, accepted {}, of these by the crate {}", self.edits, self.accepted, self.edits_by_crate);
-        println!("  finds {}, accepted and by the crate {}; lookups {}", self.finds, self.finds_by_crate, self.lookups);
+        println!("  finds {}, of these from where nothing stands {}; lookups {}", self.finds, self.no_such_start, self.lookups);
+        let [structure, model, chain, residue, conformer] = self.finds_by_crate;
+        print!("  finds accepted and by the crate, from the structure {structure}, from a model {model}, from a chain {chain}, ");
+        println!("from a residue {residue}, from a conformer {conformer}");
     }
+}
+
+// On words that hold this machine, or that are refused so, with an output of so many words; the answer and the output.
+pub fn find(store: &[u64], read: Result<&Machine, u64>, start: &[u64], tree: &[u64], room: usize) -> (Find, Vec<u64>) {
+    let mut ours = vec![7u64; room];
+    let mut by_plain = ours.clone();
+    let answer = port::find(store, start, tree, &mut ours);
+    let expected = match read {
+        Ok(m) => plain::find(m, start, tree, &mut by_plain),
+        Err(result) => Find { result, hits: 0 },
+    };
+    assert_eq!(answer, expected, "find {tree:?} from {start:?} on {store:?}");
+    assert_eq!(ours, by_plain, "hits of {tree:?} from {start:?} on {store:?}");
+    (answer, ours)
 }
 
 pub struct Sides {
@@ -46,18 +66,15 @@ impl Sides {
         ours
     }
 
-    // With an output of so many words.
-    pub fn find(&self, tree: &[u64], room: usize, counts: &mut Counts) -> Find {
-        let mut ours = vec![7u64; room];
-        let mut by_plain = ours.clone();
-        let answer = port::find(&self.store, tree, &mut ours);
-        assert_eq!(answer, plain::find(&self.judges.machine, tree, &mut by_plain), "find {tree:?} on {:?}", self.store);
-        assert_eq!(ours, by_plain, "hits of {tree:?} on {:?}", self.store);
+    // From a start, with an output of so many words.
+    pub fn find(&self, start: &[u64], tree: &[u64], room: usize, counts: &mut Counts) -> Find {
+        let (answer, out) = find(&self.store, Ok(&self.judges.machine), start, tree, room);
         counts.finds += 1;
+        counts.no_such_start += (answer.result == 5) as u64;
         if let (Some(pdb), 0) = (&self.judges.pdb, answer.result) {
-            let hits = original::find(pdb, &plain::read_tree(tree).unwrap());
-            assert_eq!(hits.concat(), ours[..answer.hits as usize * 5], "the crate's hits of {tree:?} on {:?}", self.store);
-            counts.finds_by_crate += 1;
+            let hits = original::find(pdb, start, &plain::read_tree(tree).unwrap());
+            assert_eq!(hits.concat(), out[..answer.hits as usize * 5], "the crate's hits of {tree:?} from {start:?} on {:?}", self.store);
+            counts.finds_by_crate[start.len()] += 1;
         }
         answer
     }

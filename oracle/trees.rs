@@ -1,11 +1,15 @@
-// Small trees in full, good and malformed, by find and by `remove_atoms_by`, on a store that has atoms with and without an element.
+// Small trees in full, good and malformed, by find from a start of each level and by `remove_atoms_by`, on a store that has atoms with and
+// without an element.
 use crate::plain::pack;
 use crate::port::{Call, NewAtom};
 use crate::sides::{Counts, Sides};
 
 const WORDS: usize = 40 * 12 + 1;
 
-fn sample() -> Sides {
+// One of each level. Records stand before those from the chain down, and behind all but the structure; the conformer isn't an amino acid's.
+pub const STARTS: [&[u64]; 5] = [&[], &[0], &[1, 0], &[1, 0, 0], &[1, 0, 1, 0]];
+
+pub fn sample() -> Sides {
     let mut sides = Sides::open(vec![0; WORDS]);
     let counts = &mut Counts::default();
     let conformers = [("A", 7, "ALA"), ("A", 8, "HOH"), ("B", 7, "ALA")];
@@ -26,10 +30,10 @@ fn sample() -> Sides {
 
 // A refused removal leaves the store as it was; an accepted one has a store of its own.
 fn both(sides: &mut Sides, tree: &[u64], counts: &mut Counts) {
-    let found = sides.find(tree, WORDS, counts);
+    let results = STARTS.map(|start| sides.find(start, tree, WORDS, counts).result);
     let removal = Call::RemoveAtomsBy(0, tree.to_vec());
-    let answer = if found.result == 0 { sample().edit(&removal, counts) } else { sides.edit(&removal, counts) };
-    assert_eq!(answer.result, found.result);
+    let answer = if results[0] == 0 { sample().edit(&removal, counts) } else { sides.edit(&removal, counts) };
+    assert_eq!(results, [answer.result; 5]);
 }
 
 // One node of every code with small or telling parameters.

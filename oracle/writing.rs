@@ -207,42 +207,10 @@ fn without_lines(counts: &mut Counts) {
 
 // ---- stores that hold anything
 
-// The machine of a good store.
-fn machine(store: &[u64]) -> Machine {
-    let mut m = Machine::new();
-    for w in store[..store[store.len() - 1] as usize].chunks(12) {
-        if w[0] == 1 {
-            m.push(Model { serial: w[1], chains: Vec::new() });
-            continue;
-        }
-        let chains = &mut m.last_mut().unwrap().chains;
-        if w[0] == 2 {
-            chains.push(Chain { id: w[1], residues: Vec::new() });
-            continue;
-        }
-        let residues = &mut chains.last_mut().unwrap().residues;
-        if w[0] == 3 {
-            residues.push(Residue { serial: w[1], code: w[2], conformers: Vec::new() });
-            continue;
-        }
-        let conformers = &mut residues.last_mut().unwrap().conformers;
-        if w[0] == 4 {
-            conformers.push(Conformer { name: w[1], location: w[2], atoms: Vec::new() });
-            continue;
-        }
-        let [serial, name, x, y, z, occupancy, b_factor, element, charge, hetero] = w[1..11].try_into().unwrap();
-        let values = NewAtom { serial, x, y, z, occupancy, b_factor, element, charge, hetero };
-        conformers.last_mut().unwrap().atoms.push(Atom { name, values });
-    }
-    assert_eq!(plain::lay_out(&m, store.len()), store);
-    m
-}
-
-// The port's own check says which stores are good; the writer must refuse the others as it does.
 fn compare_any(store: &[u64], counts: &mut Counts) {
-    match port::check(store) {
-        0 => compare(store, &machine(store), counts),
-        result => [0, 1, 200].into_iter().for_each(|n| call(store, n, |_| Write { result, length: 0 }, counts)),
+    match plain::read_store(store) {
+        Ok(m) => compare(store, &m, counts),
+        Err(result) => [0, 1, 200].into_iter().for_each(|n| call(store, n, |_| Write { result, length: 0 }, counts)),
     }
 }
 

@@ -158,6 +158,10 @@ static void no_store(void) {
     expect("copy no words", jubrelti_copy(NULL, 0, longer, LONGER), JUBRELTI_BAD_LENGTH);
     expect("copy into no words", jubrelti_copy(store, LENGTH, NULL, 0), JUBRELTI_BAD_LENGTH);
     expect("find in no words", jubrelti_find(NULL, 0, all, 3, out, OUT).result, JUBRELTI_BAD_LENGTH);
+    expect("from a model", jubrelti_model_find(NULL, 0, 0, all, 3, out, OUT).result, JUBRELTI_BAD_LENGTH);
+    expect("from a chain", jubrelti_chain_find(NULL, 0, 0, 0, all, 3, out, OUT).result, JUBRELTI_BAD_LENGTH);
+    expect("from a residue", jubrelti_residue_find(NULL, 0, 0, 0, 0, all, 3, out, OUT).result, JUBRELTI_BAD_LENGTH);
+    expect("from a conformer", jubrelti_conformer_find(NULL, 0, 0, 0, 0, 0, all, 3, out, OUT).result, JUBRELTI_BAD_LENGTH);
     expect("look up in no words", jubrelti_binary_find_atom(NULL, 0, 1, 0, NULL, 0).result, JUBRELTI_BAD_LENGTH);
     expect("write no words", jubrelti_write_pdb(NULL, 0, NULL, 0).result, JUBRELTI_BAD_LENGTH);
     expect("edit no words", jubrelti_add_model(NULL, 0, 1).result, JUBRELTI_BAD_LENGTH);
@@ -208,6 +212,69 @@ static void prepared_codes(void) {
     expect("is that of one residue", jubrelti_records(longer, LONGER), 7);
     expect("a removal takes it as given", jubrelti_remove_residue_by_id(longer, LONGER, 0, 0, 7, 1, bytes("a"), 1).found, 0);
     expect("in capitals it finds all three", jubrelti_remove_residue_by_id(longer, LONGER, 0, 0, 7, 1, bytes("A"), 1).removed, 3);
+}
+
+/* Find at a position of one to four indexes in the store of lower_down. */
+static JubreltiFind find_at(size_t indexes, const uint64_t *at, const uint64_t *tree, size_t tree_length, size_t out_length) {
+    switch (indexes) {
+    case 1: return jubrelti_model_find(longer, LONGER, at[0], tree, tree_length, out, out_length);
+    case 2: return jubrelti_chain_find(longer, LONGER, at[0], at[1], tree, tree_length, out, out_length);
+    case 3: return jubrelti_residue_find(longer, LONGER, at[0], at[1], at[2], tree, tree_length, out, out_length);
+    default: return jubrelti_conformer_find(longer, LONGER, at[0], at[1], at[2], at[3], tree, tree_length, out, out_length);
+    }
+}
+
+/* An atom of residue 7 in the first model of that store. */
+static uint64_t add_to(const char *chain, const char *conformer, const char *name, uint64_t element) {
+    JubreltiNewAtom values = no_values();
+    values.element = element;
+    JubreltiEdit edited = jubrelti_add_atom(longer, LONGER, 0, bytes(chain), strlen(chain), 7, 0, NULL, 0, bytes(conformer),
+                                            strlen(conformer), 0, NULL, 0, bytes(name), strlen(name), values);
+    return edited.result;
+}
+
+/* The records are those of S, then 6 chain B, 7 residue 7, 8 conformer HOH, 9 atom O, and 10 a model without chains. */
+static void lower_down(void) {
+    const uint64_t all[] = {JUBRELTI_NODE_KNOWN_TRUE};
+    const uint64_t nitrogen[] = {JUBRELTI_NODE_ELEMENT(7)};
+    const uint64_t not_nitrogen[] = {JUBRELTI_NODE_ELEMENT(7), JUBRELTI_NODE_NOT};
+    const uint64_t backbone[] = {JUBRELTI_NODE_BACKBONE};
+    const uint64_t of_no_record[][3] = {{JUBRELTI_NODE_MODEL_SERIAL_NUMBER(9)},
+                                        {JUBRELTI_NODE_CHAIN_ID("Z")},
+                                        {JUBRELTI_NODE_RESIDUE_SERIAL_NUMBER(9)},
+                                        {JUBRELTI_NODE_CONFORMER_NAME("GLY")},
+                                        {JUBRELTI_NODE_ATOM_NAME("CA")}};
+    const uint64_t unknown[] = {99, 0, 0};
+    const uint64_t first[] = {0, 0, 0, 0}, water[] = {0, 1, 0, 0}, empty[] = {1, 0}, last[] = {0, 1, 0, 1};
+    const uint64_t hit[] = {0, 6, 7, 8, 9};
+    expect("open", jubrelti_open(longer, LONGER), JUBRELTI_DONE);
+    expect("add model 1", jubrelti_add_model(longer, LONGER, 1).result, JUBRELTI_DONE);
+    expect("add N", add_to("A", "ALA", "N", 7), JUBRELTI_DONE);
+    expect("add XX", add_to("A", "ALA", "XX", 0), JUBRELTI_DONE);
+    expect("add a water's O", add_to("B", "HOH", "O", 8), JUBRELTI_DONE);
+    expect("add model 2", jubrelti_add_model(longer, LONGER, 2).result, JUBRELTI_DONE);
+    for (size_t indexes = 1; indexes <= 4; indexes++) {
+        uint64_t atoms = indexes == 1 ? 3 : 2;
+        expect("atoms from a start", find_at(indexes, first, all, 3, OUT).hits, atoms);
+        expect("hits of nitrogen", find_at(indexes, first, nitrogen, 3, OUT).hits, 2);
+        expect("of not nitrogen, and one undecided", find_at(indexes, first, not_nitrogen, 6, OUT).hits, atoms - 1);
+        for (size_t level = 1; level <= 5; level++) {
+            expect("a term of no record, by its level", find_at(indexes, first, of_no_record[level - 1], 3, OUT).hits,
+                   level <= indexes ? atoms : 0);
+        }
+    }
+    expect("backbone from a water's residue", find_at(3, water, backbone, 3, OUT).hits, 0);
+    expect("and from its conformer", find_at(4, water, backbone, 3, OUT).hits, 1);
+    for (size_t level = 0; level < 5; level++) {
+        expect("record", out[level], hit[level]);
+    }
+    expect("a model without atoms is searched", find_at(1, empty, all, 3, 0).result, JUBRELTI_DONE);
+    expect("a chain of it isn't there, whatever the tree", find_at(2, empty, NULL, 0, OUT).result, JUBRELTI_NO_POSITION);
+    expect("nor a second conformer of the water", find_at(4, last, unknown, 3, OUT).result, JUBRELTI_NO_POSITION);
+    expect("a tree is refused before an output", find_at(3, first, unknown, 3, 9).result, JUBRELTI_TREE_NODE);
+    out[0] = 99;
+    expect("no room for two hits", find_at(3, first, all, 3, 9).result, JUBRELTI_SHORT_OUTPUT);
+    expect("the output is as it was", out[0], 99);
 }
 
 /* NULL as a tree, an output and a list. */
@@ -396,6 +463,7 @@ int main(void) {
     no_store();
     no_texts();
     prepared_codes();
+    lower_down();
     no_words();
     texts();
     numbers();

@@ -121,7 +121,11 @@ _LIBRARY = _load()
 check_store = _declared(_LIBRARY, "jubrelti_check", _U64, *_SLICE)
 open_store = _declared(_LIBRARY, "jubrelti_open", _U64, *_SLICE)
 copy_store = _declared(_LIBRARY, "jubrelti_copy", _U64, *_SLICE, *_SLICE)
-find = _declared(_LIBRARY, "jubrelti_find", _Found, *_SLICE, *_SLICE, *_SLICE)
+# Find from a start of none to four indexes.
+FINDS = tuple(
+    _declared(_LIBRARY, "jubrelti_" + name, _Found, *_SLICE, *[_U64] * indexes, *_SLICE, *_SLICE)
+    for indexes, name in enumerate(("find", "model_find", "chain_find", "residue_find", "conformer_find"))
+)
 binary_find_atom = _declared(_LIBRARY, "jubrelti_binary_find_atom", _Lookup, *_SLICE, _U64, _U64, *_TEXT)
 write_pdb = _declared(_LIBRARY, "jubrelti_write_pdb", _Written, *_SLICE, ctypes.POINTER(ctypes.c_uint8), ctypes.c_size_t)
 apply = _declared(_LIBRARY, "jubrelti_apply", _Applied, *_SLICE, *_SLICE, *_SLICE)

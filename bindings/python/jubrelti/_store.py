@@ -10,7 +10,7 @@ from typing import Any, NamedTuple, Optional, Sequence, Tuple, Union
 
 from . import _library as library
 from . import _values as values
-from ._edits import Applied, Edited, Editing, Edits
+from ._edits import Applied, Edited, Editing, Edits, Position
 from ._errors import NUMBERS, Error, check, refusal
 from ._hierarchy import HIT, RECORD, Atom, Chain, Conformer, Hit, Hits, Model, Parts, Residue
 from ._search import Search, tree
@@ -222,10 +222,35 @@ class Store(Editing[Edited]):
         Undecided counts as a hit: an atom without an element may be nitrogen or not, so `Element("N")` and `~Element("N")` both list
         it. `Element("N") & AtomName("N")` leaves it out where its name is another.
         """
+        return self._find((), search)
+
+    def model_find(self, model: int, search: Search) -> Hits:
+        """The atoms of a model where the search isn't false. Terms of models are undecided."""
+        return self._find((values.number(model, "the model's index"),), search)
+
+    def chain_find(self, chain: Position, search: Search) -> Hits:
+        """The atoms of a chain, `(model, chain)`, where the search isn't false. Terms of models and chains are undecided, so a
+        chain's id excludes nothing.
+        """
+        return self._find(values.position(chain, "a chain", 2), search)
+
+    def residue_find(self, residue: Position, search: Search) -> Hits:
+        """The atoms of a residue, `(model, chain, residue)`, where the search isn't false. Terms of models, chains and residues are
+        undecided.
+        """
+        return self._find(values.position(residue, "a residue", 3), search)
+
+    def conformer_find(self, conformer: Position, search: Search) -> Hits:
+        """The atoms of a conformer, `(model, chain, residue, conformer)`, where the search isn't false. Terms of all levels but the
+        atom's are undecided, and `Backbone()` and `SideChain()` go by the atom's name alone.
+        """
+        return self._find(values.position(conformer, "a conformer", 4), search)
+
+    def _find(self, start: Tuple[int, ...], search: Search) -> Hits:
         nodes = tree(search)
         # Each hit is a record, so this is enough for all.
         out = _zeros(self._used() * HIT)
-        found = library.find(*library.lend(self._words), *library.lend(nodes), *library.lend(out))
+        found = library.FINDS[len(start)](*library.lend(self._words), *start, *library.lend(nodes), *library.lend(out))
         check(found.result)
         return Hits(self, self._edition, out[: found.hits * HIT])
 

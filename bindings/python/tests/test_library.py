@@ -89,7 +89,8 @@ class Declarations(unittest.TestCase):
             self.skipTest("there is no header beside this package")
         # The helpers, which are static, are no calls of the library.
         names = set(re.findall(r"^(?:uint64_t|Jubrelti\w+) (jubrelti_\w+)\(", header.read_text(), re.MULTILINE))
-        calls = [value for value in vars(_library).values() if hasattr(value, "argtypes")] + list(_library.EDITS.values())
+        calls = [value for value in vars(_library).values() if hasattr(value, "argtypes")]
+        calls += [*_library.FINDS, *_library.EDITS.values()]
         self.assertEqual({call.__name__ for call in calls} | {"jubrelti_version"}, names)
         for call in calls:
             self.assertIsNotNone(call.argtypes)

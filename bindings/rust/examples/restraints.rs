@@ -1,4 +1,4 @@
-// Picks atoms as a restraint builder would: main chain, side chains, what is loose, and what isn't hydrogen.
+// Picks atoms as a restraint builder would: main chain, side chains, what is loose, what isn't hydrogen, and a part of one chain.
 use jubrelti::*;
 
 // Serial number, name, symbol (empty where the reader found none), position, B-factor.
@@ -31,9 +31,9 @@ fn add(model: &mut ModelBuilder, lines: &[Line], chain: &str, residue: isize, na
     Ok(())
 }
 
-fn pick(store: &Store, title: &str, search: impl Into<Search>) -> Result<(), Error> {
+fn list(title: &str, hits: Hits) {
     println!("{title}");
-    for hit in store.find(search)? {
+    for hit in hits {
         let (atom, residue) = (hit.atom(), hit.residue());
         let (x, y, z) = atom.pos();
         println!(
@@ -46,7 +46,6 @@ fn pick(store: &Store, title: &str, search: impl Into<Search>) -> Result<(), Err
             atom.b_factor()
         );
     }
-    Ok(())
 }
 
 fn main() -> Result<(), Error> {
@@ -57,12 +56,14 @@ fn main() -> Result<(), Error> {
     let mut store = Store::new();
     store.add_model(model)?;
 
-    pick(&store, "main chain, for bonds and planes", Term::Backbone & !Term::Hetero)?;
-    pick(&store, "side chains, for rotamers", Term::SideChain & Term::ChainId("A".to_owned()))?;
-    pick(&store, "loose or ligand, for tighter restraints", Term::BFactorRange(30.0, f64::INFINITY) | Term::Hetero)?;
+    list("main chain, for bonds and planes", store.find(Term::Backbone & !Term::Hetero)?);
+    list("side chains, for rotamers", store.find(Term::SideChain & Term::ChainId("A".to_owned()))?);
+    list("loose or ligand, for tighter restraints", store.find(Term::BFactorRange(30.0, f64::INFINITY) | Term::Hetero)?);
     // X1 may be hydrogen or not, so it is listed: a search leaves out only what it knows to be false.
     let ligand = Term::ConformerName("LIG".to_owned());
-    pick(&store, "ligand without hydrogen, for contacts", ligand & !Term::Element(Element::H))?;
+    list("ligand without hydrogen, for contacts", store.find(ligand & !Term::Element(Element::H))?);
+    // A viewer that stands on the second chain asks from there.
+    list("chain B without carbon", store.chain_find([0, 1], !Term::Element(Element::C))?);
 
     // Both edits or none: the loose atoms go, and what holds no atoms then.
     let mut edits = Edits::new();

@@ -89,6 +89,33 @@ extern "C" {
     fn jubrelti_open(store: Words, n: usize) -> u64;
     fn jubrelti_copy(from: Shared, n: usize, to: Words, m: usize) -> u64;
     fn jubrelti_find(store: Shared, n: usize, tree: Shared, t: usize, out: Words, o: usize) -> Find;
+    fn jubrelti_model_find(store: Shared, n: usize, model: u64, tree: Shared, t: usize, out: Words, o: usize) -> Find;
+    fn jubrelti_chain_find(store: Shared, n: usize, model: u64, chain: u64, tree: Shared, t: usize, out: Words, o: usize) -> Find;
+    #[rustfmt::skip]
+    fn jubrelti_residue_find(
+        store: Shared,
+        n: usize,
+        model: u64,
+        chain: u64,
+        residue: u64,
+        tree: Shared,
+        t: usize,
+        out: Words,
+        o: usize,
+    ) -> Find;
+    #[rustfmt::skip]
+    fn jubrelti_conformer_find(
+        store: Shared,
+        n: usize,
+        model: u64,
+        chain: u64,
+        residue: u64,
+        conformer: u64,
+        tree: Shared,
+        t: usize,
+        out: Words,
+        o: usize,
+    ) -> Find;
     fn jubrelti_binary_find_atom(store: Shared, n: usize, serial: u64, flag: u64, location: Bytes, l: usize) -> Lookup;
     fn jubrelti_apply(store: Words, n: usize, list: Shared, l: usize, out: Words, o: usize) -> Apply;
     fn jubrelti_write_pdb(store: Shared, n: usize, out: Text, o: usize) -> Write;
@@ -177,6 +204,30 @@ pub fn copy(from: &[u64], to: &mut [u64]) -> u64 {
 pub fn find(store: &[u64], tree: &[u64], out: &mut [u64]) -> Find {
     // SAFETY: `store` and `tree` are read, and `out` is borrowed by `&mut` and written.
     unsafe { jubrelti_find(store.as_ptr(), store.len(), tree.as_ptr(), tree.len(), out.as_mut_ptr(), out.len()) }
+}
+
+pub fn model_find(store: &[u64], model: u64, tree: &[u64], out: &mut [u64]) -> Find {
+    let (s, n, t, l, w, o) = (store.as_ptr(), store.len(), tree.as_ptr(), tree.len(), out.as_mut_ptr(), out.len());
+    // SAFETY: `store` and `tree` are read, and `out` is borrowed by `&mut` and written.
+    unsafe { jubrelti_model_find(s, n, model, t, l, w, o) }
+}
+
+pub fn chain_find(store: &[u64], [model, chain]: [u64; 2], tree: &[u64], out: &mut [u64]) -> Find {
+    let (s, n, t, l, w, o) = (store.as_ptr(), store.len(), tree.as_ptr(), tree.len(), out.as_mut_ptr(), out.len());
+    // SAFETY: `store` and `tree` are read, and `out` is borrowed by `&mut` and written.
+    unsafe { jubrelti_chain_find(s, n, model, chain, t, l, w, o) }
+}
+
+pub fn residue_find(store: &[u64], [model, chain, residue]: [u64; 3], tree: &[u64], out: &mut [u64]) -> Find {
+    let (s, n, t, l, w, o) = (store.as_ptr(), store.len(), tree.as_ptr(), tree.len(), out.as_mut_ptr(), out.len());
+    // SAFETY: `store` and `tree` are read, and `out` is borrowed by `&mut` and written.
+    unsafe { jubrelti_residue_find(s, n, model, chain, residue, t, l, w, o) }
+}
+
+pub fn conformer_find(store: &[u64], [model, chain, residue, conformer]: [u64; 4], tree: &[u64], out: &mut [u64]) -> Find {
+    let (s, n, t, l, w, o) = (store.as_ptr(), store.len(), tree.as_ptr(), tree.len(), out.as_mut_ptr(), out.len());
+    // SAFETY: `store` and `tree` are read, and `out` is borrowed by `&mut` and written.
+    unsafe { jubrelti_conformer_find(s, n, model, chain, residue, conformer, t, l, w, o) }
 }
 
 pub fn binary_find_atom(store: &[u64], serial: u64, location: Optional) -> Lookup {

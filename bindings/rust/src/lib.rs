@@ -59,6 +59,9 @@
 //! [Hit::position], before the first of them, rather than read and edit in turn. A search alone reads nothing out until a hit is
 //! taken.
 //!
+//! What is read out knows no words, so the crate's `find` of a model, chain, residue or conformer is a method of the store that takes
+//! the position: [Store::model_find], [Store::chain_find], [Store::residue_find], [Store::conformer_find].
+//!
 //! ## What the crate has and this package leaves out
 //!
 //! - All that ends in `_mut`, each `set_..`, the constructors, `sort`, `renumber`, `apply_transformation`: words are edited by the
@@ -68,7 +71,6 @@
 //! - `distance_wrapping` and the four `overlaps..`: a store has no unit cell, and the package no table of radii.
 //! - Remarks, bonds, matrices, unit cell, symmetry, `modification`, `database_reference`, anisotropic factors: a store has no words
 //!   for them.
-//! - `find` of a model, chain, residue or conformer: the library searches whole stores. Terms narrow a search to a part.
 //! - `binary_find_atom` of a model or chain: in the crate it misses atoms that are there, and it panics on an empty chain
 //!   (`docs/DIFFERENCES.md`, "Serial lookup"). [Store::binary_find_atom] has a definition that is proved.
 //!
@@ -121,7 +123,7 @@ pub use search::{Ops, Search, Term};
 pub use store::{Store, Words, MAX_RECORDS};
 
 /// The version of these bindings, and of the library that they call: major * 1,000,000 + minor * 1,000 + patch.
-pub const VERSION: u64 = 5_000;
+pub const VERSION: u64 = 6_000;
 
 // A library of another version may lay out its words or number its refusals in another way. A patch changes neither.
 fn check_version() -> Result<(), Error> {

@@ -1,3 +1,4 @@
+use crate::edits::numbers;
 use crate::new_atom::optional;
 use crate::reading::Reading;
 use crate::{check_version, ffi, Error, Hit, Hits, Search};
@@ -170,11 +171,58 @@ impl<W: AsRef<[u64]>> Store<W> {
     /// # }
     /// ```
     pub fn find(&self, search: impl Into<Search>) -> Result<Hits<'_>, Error> {
+        self.hits(search.into(), ffi::find)
+    }
+
+    /// The atoms of a model where the search isn't false. Terms of models are undecided.
+    pub fn model_find(&self, model: usize, search: impl Into<Search>) -> Result<Hits<'_>, Error> {
+        self.hits(search.into(), |words, tree, out| ffi::model_find(words, model as u64, tree, out))
+    }
+
+    /// The atoms of a chain, `[model, chain]`, where the search isn't false. Terms of models and chains are undecided, as in the
+    /// crate's `Chain::find`, so a chain's id excludes nothing.
+    ///
+    /// ```
+    /// use jubrelti::*;
+    ///
+    /// # fn main() -> Result<(), Error> {
+    /// let mut store = Store::new();
+    /// store.add_model(1)?;
+    /// for (serial_number, name, chain) in [(1, "N", "A"), (2, "CB", "A"), (3, "CB", "B")] {
+    ///     store.add_atom(0, NewAtom { serial_number, name, ..NewAtom::default() }, chain, (7, None), ("ALA", None))?;
+    /// }
+    /// let in_a: Vec<Hit> = store.chain_find([0, 0], Term::SideChain)?.collect();
+    /// assert_eq!(in_a.len(), 1);
+    /// assert_eq!((in_a[0].chain().id(), in_a[0].position()), ("A", [0, 0, 0, 0, 1]));
+    /// assert_eq!(store.chain_find([0, 0], Term::ChainId("B".to_owned()))?.len(), 2);
+    /// assert_eq!(store.chain_find([0, 2], Term::SideChain).unwrap_err(), Error::NoPosition);
+    /// # Ok(())
+    /// # }
+    /// ```
+    pub fn chain_find(&self, chain: [usize; 2], search: impl Into<Search>) -> Result<Hits<'_>, Error> {
+        self.hits(search.into(), |words, tree, out| ffi::chain_find(words, numbers(chain), tree, out))
+    }
+
+    /// The atoms of a residue, `[model, chain, residue]`, where the search isn't false. Terms of models, chains and residues are
+    /// undecided.
+    pub fn residue_find(&self, residue: [usize; 3], search: impl Into<Search>) -> Result<Hits<'_>, Error> {
+        self.hits(search.into(), |words, tree, out| ffi::residue_find(words, numbers(residue), tree, out))
+    }
+
+    /// The atoms of a conformer, `[model, chain, residue, conformer]`, where the search isn't false. Terms of all levels but the atom's
+    /// are undecided, and [Term::Backbone](crate::Term::Backbone) and [Term::SideChain](crate::Term::SideChain) go by the atom's
+    /// name alone.
+    pub fn conformer_find(&self, conformer: [usize; 4], search: impl Into<Search>) -> Result<Hits<'_>, Error> {
+        self.hits(search.into(), |words, tree, out| ffi::conformer_find(words, numbers(conformer), tree, out))
+    }
+
+    // A find's hits, from the store's words and the search's.
+    fn hits(&self, search: Search, find: impl FnOnce(&[u64], &[u64], &mut [u64]) -> ffi::Find) -> Result<Hits<'_>, Error> {
         let words = self.words();
-        let tree = search.into().nodes()?;
+        let tree = search.nodes()?;
         // Each hit is a record, so this is enough for all.
         let mut out = vec![0; words.len() / RECORD * 5];
-        let found = ffi::find(words, &tree, &mut out);
+        let found = find(words, &tree, &mut out);
         Error::check(found.result)?;
         Ok(Hits::new(words, &self.reading, out, found.hits as usize))
     }

@@ -1,4 +1,4 @@
-// Worked cases 9 and 10 of document 01 as runs of the code, and the third demand's counts on its store S.
+// Worked cases 9 and 10 of document 01 as runs of the code, and the third demand's counts on its store S, whole and from a chain.
 use machine::Edited;
 use machine::Found;
 use machine::NewAtom;
@@ -98,13 +98,13 @@ fn edits_of_s() -> [u64; 54] {
     list
 }
 
-// On store S, A is Element 7 and B is AtomName `N`; the counts of A, B, "A and B", "A or B" and "not A".
-fn demand_3() {
+// On store S from a start, A is Element 7 and B is ChainId `B`; the counts of A, B, "A and B", "A or B" and "not A".
+fn demand_3(start: &[u64]) {
     let list = edits_of_s();
     let mut store = [0u64; 73];
     let mut answers = [0u64; 9];
     let a = [15, 7, 0];
-    let b = [14, 5620492334958379008, 0];
+    let b = [3, 4755801206503243776, 0];
     let mut first = [0u64; 10];
     let mut second = [0u64; 10];
     let mut both = [0u64; 10];
@@ -114,6 +114,7 @@ fn demand_3() {
         &mut store,
         &list,
         &mut answers,
+        start,
         &a,
         &b,
         &mut first,
@@ -146,5 +147,8 @@ fn main() {
     io::write_all(1, b"case 10\n");
     case_10(&mut store);
     io::write_all(1, b"demand 3\n");
-    demand_3();
+    demand_3(&[]);
+    let chain = [0, 0];
+    io::write_all(1, b"demand 3, from a chain\n");
+    demand_3(&chain);
 }

@@ -3,14 +3,15 @@ use Prim.Native.Nat.{ℕ, _+_, _≤_, _<_}
 use mathlib.Core.Path.{_≡_, refl, ap, _∙_}
 use mathlib.Core.Bool.{and-false}
 use mathlib.Core.List.{List, [], _∷_, _++_, append-assoc}
+use mathlib.Core.Option.{Option, none, some}
 use native.Mathlib.Omega.{arith}
 use lib.ListN.{length, take, drop, length-append}
 use lib.Seq.{take-at}
 use borrow.Author.Tests.{lt-leb}
-use Rattle.machine.specs.Answer.{Result, ok, refused, _>>=_, _>>_}
+use Rattle.machine.specs.Answer.{Result, ok, refused, _>>=_, _>>_, position}
 use Rattle.machine.specs.Store.{Machine, readStore, openRun}
 use Rattle.machine.specs.Query.{readTree, tables, andTree, orTree, notTree}
-use Rattle.machine.specs.Find.{hitsIn, hitsOf, written, findRun}
+use Rattle.machine.specs.Find.{Site, atomsFrom, lowest, hitsAmong, hitsFrom, written, findFrom}
 use Rattle.machine.specs.declared.Refusal.the-variants.{TreeShape}
 use Rattle.moves.specs.Over.{over}
 use Rattle.moves.proofs.Laws.{over-over}
@@ -25,18 +26,22 @@ long-tree : (t : List ℕ) → 381 < length t → readTree t ≡ refused TreeSha
 unfolding readTree
 long-tree t h = rw (lt-leb (length t) 381 h, and-false)
 
-long-find : (w t u out : List ℕ) → 381 < length t → 381 < length u → findRun w t out ≡ findRun w u out
-unfolding findRun hitsOf
-long-find w t u out h g = go (readStore w)
+long-find : (w start t u out : List ℕ) → 381 < length t → 381 < length u → findFrom w start t out ≡ findFrom w start u out
+unfolding findFrom hitsFrom
+long-find w start t u out h g = by-store (readStore w)
   where
-    go : (r : Result Machine) → written out (r >>= λ m. readTree t >> ok (hitsIn tables t m)) ≡ written out (r >>= λ m. readTree u >> ok (hitsIn tables u m))
-    go (refused e) = refl
-    go (ok m) = rw (long-tree t h, long-tree u g)
+    by-start : (o : Option (List Site)) → written out (position o >>= λ atoms. readTree t >> ok (hitsAmong tables (lowest start) t atoms)) ≡ written out (position o >>= λ atoms. readTree u >> ok (hitsAmong tables (lowest start) u atoms))
+    by-start none = refl
+    by-start (some atoms) = rw (long-tree t h, long-tree u g)
 
-module _ (w A B out : List ℕ) (code : ℕ) (run : List ℕ × List ℕ) where
-  pub too-long : (t : List ℕ) → run ≡ findRun w t out → length t ≡ 384 → 381 < length A + length B → run ≡ findRun w (A ++ (B ++ (code ∷ 0 ∷ 0 ∷ []))) out
+    by-store : (r : Result Machine) → written out (r >>= λ m. position (atomsFrom start m) >>= λ atoms. readTree t >> ok (hitsAmong tables (lowest start) t atoms)) ≡ written out (r >>= λ m. position (atomsFrom start m) >>= λ atoms. readTree u >> ok (hitsAmong tables (lowest start) u atoms))
+    by-store (refused e) = refl
+    by-store (ok m) = by-start (atomsFrom start m)
+
+module _ (w start A B out : List ℕ) (code : ℕ) (run : List ℕ × List ℕ) where
+  pub too-long : (t : List ℕ) → run ≡ findFrom w start t out → length t ≡ 384 → 381 < length A + length B → run ≡ findFrom w start (A ++ (B ++ (code ∷ 0 ∷ 0 ∷ []))) out
   too-long t e l h =
-      e ∙ long-find w t (A ++ (B ++ (code ∷ 0 ∷ 0 ∷ []))) out (omega arith) (omega (arith, length-append A (B ++ (code ∷ 0 ∷ 0 ∷ [])), length-append B (code ∷ 0 ∷ 0 ∷ [])))
+      e ∙ long-find w start t (A ++ (B ++ (code ∷ 0 ∷ 0 ∷ []))) out (omega arith) (omega (arith, length-append A (B ++ (code ∷ 0 ∷ 0 ∷ [])), length-append B (code ∷ 0 ∷ 0 ∷ [])))
 
 front : (x s : List ℕ) (n : ℕ) → length x ≡ n → take n (over 0 x s) ≡ x
 unfolding over
@@ -51,25 +56,25 @@ joined t t₁ t₂ t₃ A B k e₁ e₂ e₃ h =
     let three : t₃ ≡ over 0 ((A ++ B) ++ k) t = e₃ ∙ rw (two, ← y) (over-over 0 (A ++ B) k t (omega arith)) in
     rw three (front ((A ++ B) ++ k) t (length A + length B + length k) (omega (arith, length-append (A ++ B) k, length-append A B))) ∙ append-assoc A B k
 
-pub joined-find : (t t₁ t₂ t₃ A B : List ℕ) (code : ℕ) (w out : List ℕ) (run : List ℕ × List ℕ) → t₁ ≡ over 0 A t → t₂ ≡ over (length A) B t₁ → t₃ ≡ over (length A + length B) (code ∷ 0 ∷ 0 ∷ []) t₂
-    → length A + length B + 3 ≤ length t → run ≡ findRun w (take (length A + length B + 3) t₃) out → run ≡ findRun w (A ++ (B ++ (code ∷ 0 ∷ 0 ∷ []))) out
-joined-find t t₁ t₂ t₃ A B code w out run e₁ e₂ e₃ h e = e ∙ ap (λ (u : List ℕ). findRun w u out) (joined t t₁ t₂ t₃ A B (code ∷ 0 ∷ 0 ∷ []) e₁ e₂ e₃ h)
+pub joined-find : (t t₁ t₂ t₃ A B : List ℕ) (code : ℕ) (w start out : List ℕ) (run : List ℕ × List ℕ) → t₁ ≡ over 0 A t → t₂ ≡ over (length A) B t₁ → t₃ ≡ over (length A + length B) (code ∷ 0 ∷ 0 ∷ []) t₂
+    → length A + length B + 3 ≤ length t → run ≡ findFrom w start (take (length A + length B + 3) t₃) out → run ≡ findFrom w start (A ++ (B ++ (code ∷ 0 ∷ 0 ∷ []))) out
+joined-find t t₁ t₂ t₃ A B code w start out run e₁ e₂ e₃ h e = e ∙ ap (λ (u : List ℕ). findFrom w start u out) (joined t t₁ t₂ t₃ A B (code ∷ 0 ∷ 0 ∷ []) e₁ e₂ e₃ h)
 
 -- ---- find_all, edit_and_find
 
-pub all-runs : (w A B first second both either opposite : List ℕ) (r : Runs)
-    → r .first ≡ findRun w A first → r .second ≡ findRun w B second → r .both ≡ findRun w (andTree A B) both
-    → r .either ≡ findRun w (orTree A B) either → r .opposite ≡ findRun w (notTree A) opposite
-    → r ≡ runsOf (findRun w) A B first second both either opposite
-all-runs w A B first second both either opposite r a b c d e = rw (← a, ← b, ← c, ← d, ← e)
+pub all-runs : (w start A B first second both either opposite : List ℕ) (r : Runs)
+    → r .first ≡ findFrom w start A first → r .second ≡ findFrom w start B second → r .both ≡ findFrom w start (andTree A B) both
+    → r .either ≡ findFrom w start (orTree A B) either → r .opposite ≡ findFrom w start (notTree A) opposite
+    → r ≡ runsOf (findFrom w start) A B first second both either opposite
+all-runs w start A B first second both either opposite r a b c d e = rw (← a, ← b, ← c, ← d, ← e)
 
-module _ (w w₁ list out A B first second both either opposite : List ℕ) (s : Seen) where
+module _ (w w₁ list out start A B first second both either opposite : List ℕ) (s : Seen) where
   whole : (s .opened, w₁) ≡ openRun w → record { numbers = s .applied; store = s .store; out = s .answers } ≡ applyRun w₁ list out
-      → s .runs ≡ runsOf (findRun (s .store)) A B first second both either opposite
-      → s ≡ wholeRun w list out A B first second both either opposite
+      → s .runs ≡ runsOf (findFrom (s .store) start) A B first second both either opposite
+      → s ≡ wholeRun w list out start A B first second both either opposite
   whole o r f = rw (← o, ← r, ← f)
 
   pub claimed : (s .opened, w₁) ≡ openRun w → record { numbers = s .applied; store = s .store; out = s .answers } ≡ applyRun w₁ list out
-      → s .runs ≡ runsOf (findRun (s .store)) A B first second both either opposite
-      → Claims (length w) list A B s × (s ≡ wholeRun w list out A B first second both either opposite)
-  claimed o r f = (rw (whole o r f) (whole-claims w list out A B first second both either opposite), whole o r f)
+      → s .runs ≡ runsOf (findFrom (s .store) start) A B first second both either opposite
+      → Claims (length w) list start A B s × (s ≡ wholeRun w list out start A B first second both either opposite)
+  claimed o r f = (rw (whole o r f) (whole-claims w list out start A B first second both either opposite), whole o r f)

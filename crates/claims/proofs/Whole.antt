@@ -61,8 +61,8 @@ threes-answers n m (c ∷ cs) rest =
 
 -- ---- the whole
 
-module _ (w list out A B first second both either opposite : List ℕ) where
-  pub whole-claims : Claims (length w) list A B (wholeRun w list out A B first second both either opposite)
+module _ (w list out start A B first second both either opposite : List ℕ) where
+  pub whole-claims : Claims (length w) list start A B (wholeRun w list out start A B first second both either opposite)
   whole-claims opens lists =
       let l = list-ran (openRun w .1) list out lists in
       let cs = l .calls in
@@ -75,6 +75,6 @@ module _ (w list out A B first second both either opposite : List ℕ) where
           held = d .held;
           answered = d .answered;
           counted = d .counted;
-          queries = d .queries A B first second both either opposite;
+          queries = λ atoms u. d .queries start atoms u A B first second both either opposite;
         };
       }

@@ -1,5 +1,5 @@
--- The third demand, of what one call of the code leaves: a store is opened, a list of edits applied to it, and find run for A, B,
--- "A and B", "A or B" and "not A". Each fact has the demand's sentence beside it. Assumes nothing.
+-- The third demand, of what one call of the code leaves: a store is opened, a list of edits applied to it, and find run from one
+-- start for A, B, "A and B", "A or B" and "not A". Each fact has the demand's sentence beside it. Assumes nothing.
 use Prim.Native.Nat.{ℕ, zero, suc, _+_}
 use mathlib.Core.Path.{_≡_}
 use mathlib.Core.Bool.{true}
@@ -9,7 +9,7 @@ use lib.ListN.{length, take, drop}
 use Rattle.machine.specs.Answer.{openedNumbers, foundNumbers, appliedNumbers}
 use Rattle.machine.specs.Store.{Machine, layOut, openRun}
 use Rattle.machine.specs.Query.{tables}
-use Rattle.machine.specs.Find.{atomsOf, findRun}
+use Rattle.machine.specs.Find.{Site, atomsOf, atomsFrom, lowest, findFrom}
 use Rattle.machine.specs.Edit.{Call, machineAfter, machineAnswers}
 use Rattle.machine.specs.Demand.{accepts, added, removed}
 use Rattle.calls.specs.Format.{readCalls}
@@ -55,36 +55,36 @@ threes (suc n) ws = take 3 ws ∷ threes n (drop 3 ws)
 
 -- ---- the facts, of a store of n words, the calls, their answers, and the plain machine m that was fed the calls
 
-pub record Facts (n : ℕ) (calls : List Call) (answers : List (List ℕ)) (m : Machine) (A B : List ℕ) (store : List ℕ) (r : Runs) : Type 0 where
+pub record Facts (n : ℕ) (calls : List Call) (answers : List (List ℕ)) (m : Machine) (start A B : List ℕ) (store : List ℕ) (r : Runs) : Type 0 where
   -- "after it the store holds exactly the structure of document 01's plain machine, fed the same list"
   pub held : store ≡ layOut n m
   pub answered : answers ≡ machineAnswers n [] calls
   -- "added − removed is the number of stored atoms"
   pub counted : length (atomsOf m) + removed answers ≡ added calls answers
-  -- the five runs
-  pub queries : Queries tables 1 (atomsOf m) A B r
+  -- the five runs, among the atoms under the start
+  pub queries : (atoms : List Site) → atomsFrom start m ≡ some atoms → Queries tables (lowest start) atoms A B r
 
 -- ---- the claim
 
 -- "For every list of the sixteen edit calls, refused ones included": the words of the list stand for calls
-pub record Claim (n : ℕ) (list A B : List ℕ) (s : Seen) : Type 0 where
+pub record Claim (n : ℕ) (list start A B : List ℕ) (s : Seen) : Type 0 where
   pub calls : List Call
   pub read : readCalls list ≡ some calls
-  pub facts : Facts n calls (threes (length calls) (s .answers)) (machineAfter n [] calls) A B (s .store) (s .runs)
+  pub facts : Facts n calls (threes (length calls) (s .answers)) (machineAfter n [] calls) start A B (s .store) (s .runs)
 
 -- "from a store just opened": opening was accepted, and so was the list, that is, its words are a list and its answers have room
-abbrev pub Claims : ℕ → (list A B : List ℕ) → Seen → Type 0
-Claims n list A B s = accepts (s .opened) ≡ true → accepts (s .applied) ≡ true → Claim n list A B s
+abbrev pub Claims : ℕ → (list start A B : List ℕ) → Seen → Type 0
+Claims n list start A B s = accepts (s .opened) ≡ true → accepts (s .applied) ≡ true → Claim n list start A B s
 
 -- ---- the same call as one equation, refusals included
 
-abbrev pub wholeRun : (w list answers A B first second both either opposite : List ℕ) → Seen
-wholeRun w list answers A B first second both either opposite =
+abbrev pub wholeRun : (w list answers start A B first second both either opposite : List ℕ) → Seen
+wholeRun w list answers start A B first second both either opposite =
     let run = applyRun (openRun w .1) list answers in
     record {
       opened = openRun w .0;
       applied = run .numbers;
       store = run .store;
       answers = run .out;
-      runs = runsOf (findRun (run .store)) A B first second both either opposite;
+      runs = runsOf (findFrom (run .store) start) A B first second both either opposite;
     }

@@ -1,10 +1,10 @@
-// The third demand as the contract of a function: a store is opened, a list of edits applied to it, and find run for A, B, "A and B",
-// "A or B" and "not A", each into an output of its own.
+// The third demand as the contract of a function: a store is opened, a list of edits applied to it, and find run from one start for A, B,
+// "A and B", "A or B" and "not A", each into an output of its own.
 ghost use mathlib.Core.Path.{_≡_};
 ghost use mathlib.Core.List.{[], _∷_, _++_};
 ghost use lib.ListN.{length};
 ghost use Rattle.machine.specs.Answer.{foundNumbers};
-ghost use Rattle.machine.specs.Find.{findRun};
+ghost use Rattle.machine.specs.Find.{findFrom};
 ghost use Rattle.demands.specs.Queries.{runsOf};
 ghost use Rattle.claims.specs.Claim.{runsSeen, seen, wholeRun, Claims};
 use machine::Applied;
@@ -27,28 +27,36 @@ pub struct Answers {
 
 // Find of a tree that is put together: "The tree "A and B" is A's nodes, then B's, then a node 23". One of over 381 words is refused
 // whatever it holds.
-fn find_joined(store: &[u64], a: &[u64], b: &[u64], code: u64, out: &mut [u64]) -> Found
+fn find_joined(
+    store: &[u64],
+    start: &[u64],
+    a: &[u64],
+    b: &[u64],
+    code: u64,
+    out: &mut [u64],
+) -> Found
     ensures { λ r. ⌜ (foundNumbers r, now (out .exit))
-        ≡ findRun (now (store .entry)) (now (a .entry) ++ (now (b .entry) ++ (code ∷ 0 ∷ 0 ∷ []))) (now (out .entry)) ⌝ }
+        ≡ findFrom (now (store .entry)) (now (start .entry)) (now (a .entry) ++ (now (b .entry) ++ (code ∷ 0 ∷ 0 ∷ []))) (now (out .entry)) ⌝ }
 {
     let mut tree = [0u64; 384];
     let m = a.len();
     let n = b.len();
     if 381 < m {
-        return structs::pdb::find(store, &tree, out);
+        return walk::find(store, start, &tree, out);
     }
     if 381 - m < n {
-        return structs::pdb::find(store, &tree, out);
+        return walk::find(store, start, &tree, out);
     }
     let node = [code, 0, 0];
     moves::write_over(&mut tree, 0, a);
     moves::write_over(&mut tree, m, b);
     moves::write_over(&mut tree, m + n, &node);
-    structs::pdb::find(store, &tree[..m + n + 3], out)
+    walk::find(store, start, &tree[..m + n + 3], out)
 }
 
 fn find_all(
     store: &[u64],
+    start: &[u64],
     a: &[u64],
     b: &[u64],
     first: &mut [u64],
@@ -58,14 +66,14 @@ fn find_all(
     opposite: &mut [u64],
 ) -> Finds
     ensures { λ r. ⌜ runsSeen r (now (first .exit)) (now (second .exit)) (now (both .exit)) (now (either .exit)) (now (opposite .exit))
-        ≡ runsOf (findRun (now (store .entry))) (now (a .entry)) (now (b .entry))
+        ≡ runsOf (findFrom (now (store .entry)) (now (start .entry))) (now (a .entry)) (now (b .entry))
         (now (first .entry)) (now (second .entry)) (now (both .entry)) (now (either .entry)) (now (opposite .entry)) ⌝ }
 {
-    let in_first = structs::pdb::find(store, a, first);
-    let in_second = structs::pdb::find(store, b, second);
-    let in_both = find_joined(store, a, b, 23, both);
-    let in_either = find_joined(store, a, b, 24, either);
-    let in_opposite = find_joined(store, a, &a[..0], 26, opposite);
+    let in_first = walk::find(store, start, a, first);
+    let in_second = walk::find(store, start, b, second);
+    let in_both = find_joined(store, start, a, b, 23, both);
+    let in_either = find_joined(store, start, a, b, 24, either);
+    let in_opposite = find_joined(store, start, a, &a[..0], 26, opposite);
     Finds {
         first: in_first,
         second: in_second,
@@ -75,12 +83,13 @@ fn find_all(
     }
 }
 
-// Of any store, list, trees and outputs. The first clause is the third demand, of what this call leaves, and the second says all that it
+// Of any store, list, start, trees and outputs. The first clause is the third demand, of what this call leaves, and the second says all that it
 // leaves, refusals included, as one equation.
 pub fn edit_and_find(
     store: &mut [u64],
     list: &[u64],
     answers: &mut [u64],
+    start: &[u64],
     a: &[u64],
     b: &[u64],
     first: &mut [u64],
@@ -89,17 +98,17 @@ pub fn edit_and_find(
     either: &mut [u64],
     opposite: &mut [u64],
 ) -> Answers
-    ensures demand3 { λ r. ⌜ Claims (length (now (store .entry))) (now (list .entry)) (now (a .entry)) (now (b .entry))
+    ensures demand3 { λ r. ⌜ Claims (length (now (store .entry))) (now (list .entry)) (now (start .entry)) (now (a .entry)) (now (b .entry))
         (seen r (now (store .exit)) (now (answers .exit))
         (now (first .exit)) (now (second .exit)) (now (both .exit)) (now (either .exit)) (now (opposite .exit))) ⌝ }
     ensures whole { λ r. ⌜ seen r (now (store .exit)) (now (answers .exit))
         (now (first .exit)) (now (second .exit)) (now (both .exit)) (now (either .exit)) (now (opposite .exit))
-        ≡ wholeRun (now (store .entry)) (now (list .entry)) (now (answers .entry)) (now (a .entry)) (now (b .entry))
+        ≡ wholeRun (now (store .entry)) (now (list .entry)) (now (answers .entry)) (now (start .entry)) (now (a .entry)) (now (b .entry))
         (now (first .entry)) (now (second .entry)) (now (both .entry)) (now (either .entry)) (now (opposite .entry)) ⌝ }
 {
     let opened = structs::pdb::open(store);
     let applied = edits::apply(store, list, answers);
-    let finds = find_all(store, a, b, first, second, both, either, opposite);
+    let finds = find_all(store, start, a, b, first, second, both, either, opposite);
     Answers {
         opened: opened,
         applied: applied,

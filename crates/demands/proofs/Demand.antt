@@ -3,17 +3,18 @@ use Prim.Native.Nat.{ℕ, _+_}
 use mathlib.Core.Path.{_≡_, refl, ap}
 use mathlib.Core.Bool.{Bool, true, false, cond, false≢true}
 use mathlib.Core.List.{List, [], _∷_}
+use mathlib.Core.Option.{Option, none, some}
 use native.Mathlib.Omega.{arith}
 use lib.ListN.{length, replicate}
 use Rattle.machine.specs.Answer.{Result, ok, refused}
 use Rattle.machine.specs.Store.{Machine, stored, layOut, goodLength, readStore, openRun}
 use Rattle.machine.specs.Query.{tables, readTree, notTree}
-use Rattle.machine.specs.Find.{atomsOf, hitsIn, hitsOf, findRun}
+use Rattle.machine.specs.Find.{Site, atomsOf, atomsFrom, lowest, hitsFrom, findFrom, findRun}
 use Rattle.machine.specs.Edit.{Call, Change, machineStep, answer, next, stepBy, storeStep, machineAfter, machineAnswers, storeAfter, storeAnswers}
 use Rattle.machine.specs.Demand.{added, removed, Accepted, count, undecided}
 use Rattle.laws.specs.Good.{Fit}
 use Rattle.laws.specs.Layout.{layOut-length, fit-words, read-layOut, open-empty}
-use Rattle.laws.specs.Numbers.{five-numbers, numbers-rise, atoms-stored}
+use Rattle.laws.specs.Numbers.{atoms-stored, whole-start, under-start, under-five, under-rises}
 use Rattle.laws.specs.Steps.{step-keeps, step-counts}
 use Rattle.demands.specs.Demand.{after, answers, machine, Demand3}
 use Rattle.demands.proofs.Queries.{Listed, run-listed, queries}
@@ -56,10 +57,16 @@ steps n m (c ∷ cs) g f =
 
 -- ---- find on words that hold a machine
 
-module _ (m : Machine) (w : List ℕ) (e : readStore w ≡ ok m) where
-  pub find-listed : (t out : List ℕ) → Accepted (findRun w t out) → Listed tables 1 (atomsOf m) t (findRun w t out)
-  unfolding findRun hitsOf hitsIn
-  find-listed t out a = rw e (run-listed tables 1 (atomsOf m) (five-numbers m) t out (readTree t) refl (rw e at a))
+module _ (m : Machine) (w : List ℕ) (e : readStore w ≡ ok m) (start : List ℕ) where
+  pub find-listed : (atoms : List Site) → atomsFrom start m ≡ some atoms → (t out : List ℕ) → Accepted (findFrom w start t out) → Listed tables (lowest start) atoms t (findFrom w start t out)
+  unfolding findFrom hitsFrom
+  find-listed atoms u t out a = rw (e, u) (run-listed tables (lowest start) atoms (under-five (stored m) atoms (under-start start m atoms u)) t out (readTree t) refl (rw (e, u) at a))
+
+  -- an accepted run has a start
+  pub start-found : (o : Option (List Site)) → atomsFrom start m ≡ o → (t out : List ℕ) → Accepted (findFrom w start t out) → (atoms : List Site) × (atomsFrom start m ≡ some atoms)
+  unfolding findFrom hitsFrom
+  start-found none u t out a = absurd (false≢true (rw (e, u) at a))
+  start-found (some atoms) u t out a = (atoms, u)
 
 -- ---- a store just opened
 
@@ -105,11 +112,11 @@ module _ (w : List ℕ) (calls : List Call) (opens : Accepted (openRun w)) where
         answered = is-answered;
         held = is-held;
         counted = is-counted;
-        queries = λ A B first second both either opposite.
-            queries tables 1 (atomsOf (machine w calls)) 0 _ (numbers-rise (machine w calls)) (findRun (after w calls)) (find-listed (machine w calls) (after w calls) reads) A B first second both either opposite;
+        queries = λ start atoms u.
+            queries tables (lowest start) atoms _ _ (under-rises _ atoms (under-start start (machine w calls) atoms u)) (findFrom (after w calls) start) (find-listed (machine w calls) (after w calls) reads start atoms u);
       }
 
-  -- "n(A) + n(not A) = added − removed + undecided"
+  -- "n(A) + n(not A) = added − removed + undecided", on the whole store
   pub added-removed : (A o p : List ℕ) → Accepted (findRun (after w calls) A o) → Accepted (findRun (after w calls) (notTree A) p)
       → count (findRun (after w calls) A o) + count (findRun (after w calls) (notTree A) p) + removed (answers w calls) ≡ added calls (answers w calls) + undecided tables 1 A (atomsOf (machine w calls))
-  added-removed A o p x y = omega (arith, demand3 .queries A [] o [] [] [] p .not-counts x y, is-counted)
+  added-removed A o p x y = omega (arith, demand3 .queries [] (atomsOf (machine w calls)) (whole-start (machine w calls)) A [] o [] [] [] p .not-counts x y, is-counted)

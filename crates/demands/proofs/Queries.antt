@@ -15,9 +15,10 @@ use Rattle.machine.specs.Query.{Names, readTree, andTree, orTree, notTree}
 use Rattle.machine.specs.Find.{Site, valueFrom, hitsAmong, hitWords, written}
 use Rattle.machine.specs.Demand.{Accepted, count, fives, list, atomNumber, undecided}
 use Rattle.machine.specs.declared.Node.{Node}
-use Rattle.laws.specs.Lists.{All, All-over}
-use Rattle.laws.specs.Counting.{filter-same, filter-all, filter-both, filter-All, Keyed, keyed-filter, shared-filter, any-filter, rises-rising}
+use Rattle.laws.specs.Lists.{All}
+use Rattle.laws.specs.Counting.{filter-same, filter-all, filter-both, Keyed, keyed-filter, shared-filter, any-filter, rises-rising}
 use Rattle.laws.specs.Kleene.{hit-and, hit-or, hit-both, hit-either}
+use Rattle.laws.specs.Numbers.{hits-five}
 use Rattle.laws.specs.Trees.{and-value, or-value, not-value}
 use Rattle.laws.specs.Steps.{refusal-number}
 use Rattle.demands.specs.Queries.{runsOf, Lists, Queries}
@@ -41,24 +42,20 @@ module _ (names : Names) (low : ℕ) (atoms : List Site) where
     pub hits : list run ≡ hitsAmong names low t atoms
     pub number : count run ≡ length (list run)
 
-  module _ (five : All (λ s. length (s .numbers) ≡ 5) atoms) where
-    pub hits-five : (t : List ℕ) → All (λ h. length h ≡ 5) (hitsAmong names low t atoms)
-    hits-five t = All-over (λ h. length h ≡ 5) numbersOf (filter (hits t) atoms) (filter-All (λ s. length (s .numbers) ≡ 5) (hits t) atoms five)
+  module _ (five : All (λ s. length (s .numbers) ≡ 5) atoms) (t out : List ℕ) where
+    abbrev all : List (List ℕ)
+    all = hitsAmong names low t atoms
 
-    module _ (t out : List ℕ) where
-      abbrev all : List (List ℕ)
-      all = hitsAmong names low t atoms
+    written-ok : (ns : List Node) → readTree t ≡ ok ns → (b : Bool) → leb (5 * length all) (length out) ≡ b → Accepted (written out (ok all)) → Listed t (written out (ok all))
+    unfolding list
+    written-ok ns e true i a =
+        let l = fives-words all (drop (5 * length all) out) (hits-five names low t atoms five) in
+        rw i record { nodes = ns; tree = e; hits = l; number = ap length (sym l) }
+    written-ok ns e false i a = absurd (false≢true (rw i at a))
 
-      written-ok : (ns : List Node) → readTree t ≡ ok ns → (b : Bool) → leb (5 * length all) (length out) ≡ b → Accepted (written out (ok all)) → Listed t (written out (ok all))
-      unfolding list
-      written-ok ns e true i a =
-          let l = fives-words all (drop (5 * length all) out) (hits-five t) in
-          rw i record { nodes = ns; tree = e; hits = l; number = ap length (sym l) }
-      written-ok ns e false i a = absurd (false≢true (rw i at a))
-
-      pub run-listed : (r : Result (List Node)) → readTree t ≡ r → Accepted (written out (r >> ok all)) → Listed t (written out (r >> ok all))
-      run-listed (ok ns) e a = written-ok ns e (leb (5 * length all) (length out)) refl a
-      run-listed (refused c) e a = absurd (false≢true (sym (refusal-number c) ∙ a))
+    pub run-listed : (r : Result (List Node)) → readTree t ≡ r → Accepted (written out (r >> ok all)) → Listed t (written out (r >> ok all))
+    run-listed (ok ns) e a = written-ok ns e (leb (5 * length all) (length out)) refl a
+    run-listed (refused c) e a = absurd (false≢true (sym (refusal-number c) ∙ a))
 
   -- ---- the facts
 

@@ -1,5 +1,5 @@
 -- Where a pass stands, as a site of the store: what stands above a record that is entered is as it was. Assumes nothing.
-use Prim.Native.Nat.{ℕ, zero, suc, _+_, _-_, _≤_, _<_}
+use Prim.Native.Nat.{ℕ, zero, suc, _-_, _≤_, _<_}
 use mathlib.Core.Path.{_≡_, refl, sym, ap, _∙_}
 use mathlib.Core.Bool.{Bool, true, false, _&&_}
 use mathlib.Core.List.{List, [], _∷_}
@@ -14,8 +14,8 @@ use Rattle.machine.specs.Query.{Place, onlyIf, window}
 use Rattle.machine.specs.Find.{Site, enter, below}
 use Rattle.machine.specs.declared.RecordNumbers.{RecordNumbers}
 use Rattle.laws.specs.Scan.{above}
-use Rattle.seek.specs.Seek.{recordAt}
-use Rattle.terms.specs.Levels.{placeAt, fiveNumbers}
+use Rattle.seek.specs.Seek.{recordAt, fiveNumbers}
+use Rattle.terms.specs.Levels.{placeAt}
 use Rattle.descent.specs.Descent.{five, siteAt, UpTo}
 
 -- ---- places
@@ -128,8 +128,8 @@ up-entered k n at u =
     (up-choose n (eqb k 4) _ _ (record { model = u .model; chain = u .chain; residue = u .residue; conformer = omega arith; atom = u .atom })
     (record { model = u .model; chain = u .chain; residue = u .residue; conformer = u .conformer; atom = omega arith }))))
 
-pub up-next : (n : ℕ) (at : RecordNumbers) → UpTo n at → UpTo (n + 1) at
-up-next n at u =
+pub up-more : (n m : ℕ) (at : RecordNumbers) → n ≤ m → UpTo n at → UpTo m at
+up-more n m at l u =
     record { model = omega (arith, u .model); chain = omega (arith, u .chain); residue = omega (arith, u .residue); conformer = omega (arith, u .conformer); atom = omega (arith, u .atom) }
 
 -- a list of five has them

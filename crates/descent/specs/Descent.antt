@@ -21,9 +21,6 @@ five at = at .model ∷ at .chain ∷ at .residue ∷ at .conformer ∷ at .atom
 unfoldable pub siteAt : List ℕ → ℕ → RecordNumbers → Site
 siteAt w d at = record { numbers = take d (five at); place = window 1 d (placeAt w at) }
 
-abbrev pub start : RecordNumbers
-start = record { model = 0; chain = 0; residue = 0; conformer = 0; atom = 0 }
-
 -- the numbers are at most n
 pub record UpTo (n : ℕ) (at : RecordNumbers) : Type 0 where
   pub model : at .model ≤ n

@@ -7,23 +7,11 @@ ghost use mathlib.Core.Path.{_≡_};
 ghost use Prim.Native.Nat.{_-_, _≤_};
 ghost use lib.ListN.{set};
 ghost use Rattle.machine.specs.Query.{readTree};
-ghost use Rattle.terms.specs.Levels.{fiveNumbers, Inside};
+ghost use Rattle.seek.specs.Seek.{fiveNumbers};
+ghost use Rattle.terms.specs.Levels.{Inside};
 ghost use Rattle.search.specs.Nodes.{checked, topmostFrom};
 ghost use Rattle.search.specs.declared.CheckedTree.the-variants.{Good};
-ghost use Rattle.descent.specs.Descent.{five, start as startAt, valueBy, Settled, Turned};
-
-// The numbers before any record was seen.
-pub fn start() -> RecordNumbers
-    ensures { λ r. ⌜ r ≡ startAt ⌝ }
-{
-    RecordNumbers {
-        model: 0,
-        chain: 0,
-        residue: 0,
-        conformer: 0,
-        atom: 0,
-    }
-}
+ghost use Rattle.descent.specs.Descent.{five, valueBy, Settled, Turned};
 
 // The five numbers, from the model's down: the record that was last seen of each kind.
 pub fn numbers_of(at: RecordNumbers) -> [u64; 5]

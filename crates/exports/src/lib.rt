@@ -5,7 +5,7 @@ ghost use mathlib.Core.List.{[], _∷_};
 ghost use Rattle.machine.specs.Answer.{resultNumber, editFields, findFields, writeFields, applyFields, lookupFields};
 ghost use Rattle.machine.specs.Text.{optionalOf};
 ghost use Rattle.machine.specs.Store.{readStore, openRun};
-ghost use Rattle.machine.specs.Find.{findRun};
+ghost use Rattle.machine.specs.Find.{findRun, findFrom};
 ghost use Rattle.machine.specs.Edit as Calls;
 ghost use Rattle.machine.specs.Edit.{addition, storeStep};
 ghost use Rattle.machine.specs.Lookup.{lookupRun};
@@ -21,12 +21,12 @@ use machine::NewAtom;
 use machine::WriteAnswer;
 use store::Checked;
 
-// 0.5.0: the millions are the major number, the thousands the minor one.
+// 0.6.0: the millions are the major number, the thousands the minor one.
 #[no_mangle]
 pub extern "C" fn jubrelti_version() -> u64
     ensures { λ r. ⌜ r ≡ version ⌝ }
 {
-    5_000
+    6_000
 }
 
 // 0 for a good store, else the refusal's number.
@@ -62,6 +62,66 @@ pub extern "C" fn jubrelti_find(store: &[u64], tree: &[u64], out: &mut [u64]) ->
     ensures { λ r. ⌜ (findFields r, now (out .exit)) ≡ findRun (now (store .entry)) (now (tree .entry)) (now (out .entry)) ⌝ }
 {
     let found = structs::pdb::find(store, tree, out);
+    answers::of_found(found)
+}
+
+#[no_mangle]
+pub extern "C" fn jubrelti_model_find(
+    store: &[u64],
+    model: u64,
+    tree: &[u64],
+    out: &mut [u64],
+) -> FindAnswer
+    ensures { λ r. ⌜ (findFields r, now (out .exit)) ≡ findFrom (now (store .entry)) (model ∷ []) (now (tree .entry)) (now (out .entry)) ⌝ }
+{
+    let found = structs::model::find(store, model, tree, out);
+    answers::of_found(found)
+}
+
+#[no_mangle]
+pub extern "C" fn jubrelti_chain_find(
+    store: &[u64],
+    model: u64,
+    chain: u64,
+    tree: &[u64],
+    out: &mut [u64],
+) -> FindAnswer
+    ensures { λ r. ⌜ (findFields r, now (out .exit)) ≡ findFrom (now (store .entry)) (model ∷ chain ∷ []) (now (tree .entry)) (now (out .entry)) ⌝ }
+{
+    let found = structs::chain::find(store, model, chain, tree, out);
+    answers::of_found(found)
+}
+
+#[no_mangle]
+pub extern "C" fn jubrelti_residue_find(
+    store: &[u64],
+    model: u64,
+    chain: u64,
+    residue: u64,
+    tree: &[u64],
+    out: &mut [u64],
+) -> FindAnswer
+    ensures { λ r. ⌜ (findFields r, now (out .exit))
+        ≡ findFrom (now (store .entry)) (model ∷ chain ∷ residue ∷ []) (now (tree .entry)) (now (out .entry)) ⌝ }
+{
+    let found = structs::residue::find(store, model, chain, residue, tree, out);
+    answers::of_found(found)
+}
+
+#[no_mangle]
+pub extern "C" fn jubrelti_conformer_find(
+    store: &[u64],
+    model: u64,
+    chain: u64,
+    residue: u64,
+    conformer: u64,
+    tree: &[u64],
+    out: &mut [u64],
+) -> FindAnswer
+    ensures { λ r. ⌜ (findFields r, now (out .exit))
+        ≡ findFrom (now (store .entry)) (model ∷ chain ∷ residue ∷ conformer ∷ []) (now (tree .entry)) (now (out .entry)) ⌝ }
+{
+    let found = structs::conformer::find(store, model, chain, residue, conformer, tree, out);
     answers::of_found(found)
 }
 

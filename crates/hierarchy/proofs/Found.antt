@@ -1,29 +1,30 @@
--- Find's hits are hits here (`find-named`), and the records of a stored atom's numbers say what its place says (`sites-shown`), at which find's tree is valued.
+-- Find's hits, from any start, are hits here (`find-named`), and the records of a stored atom's numbers say what its place says (`sites-shown`), at which find's tree is valued.
 -- Assumes nothing.
 use Prim.Native.Nat.{ℕ, zero, suc, _+_, _-_, _*_, _/_, _<_}
 use mathlib.Core.Path.{_≡_, refl, sym, ap, _∙_}
 use mathlib.Core.Bool.{Bool, true, false}
 use mathlib.Core.List.{List, [], _∷_, _++_, append-assoc, append-nil}
-use mathlib.Core.Option.{some}
+use mathlib.Core.Option.{Option, none, some}
 use native.Mathlib.Omega.{arith}
 use lib.ListN.{length, getD, take, drop, replicate, length-append, length-drop}
 use lib.Seq.{drop-drop, drop-append-seam, getD-drop}
 use lib.Dec.{leb}
 use borrow.Author.Tests.{lt-ltb}
 use Rattle.machine.specs.Lists.{filter, concatMap, concatMapFrom}
-use Rattle.machine.specs.Answer.{Result, ok, refused, _>>=_, _>>_, refusalNumber}
+use Rattle.machine.specs.Answer.{Result, ok, refused, _>>=_, _>>_, position}
 use Rattle.machine.specs.Record.{Fields, Words, words, fieldsOf}
-use Rattle.machine.specs.Store.{Branch, Machine, flat, records, laid, layOut, readStore}
+use Rattle.machine.specs.Store.{Branch, Machine, flat, records, stored, laid, layOut, readStore}
 use Rattle.machine.specs.Kleene.{isHit}
 use Rattle.machine.specs.Query.{tables, readTree}
 use Rattle.machine.specs.declared.Node.{Node}
-use Rattle.machine.specs.Find.{Site, enter, below, top, size, atomsIn, atomsOf, valueFrom, hitsIn, hitsOf, hitWords, written, findRun}
+use Rattle.machine.specs.declared.Refusal.{Refusal}
+use Rattle.machine.specs.declared.Refusal.the-variants.{NoPosition, ShortOutput}
+use Rattle.machine.specs.Find.{Site, enter, below, top, size, atomsIn, atomsOf, atomsFrom, lowest, valueFrom, hitsAmong, hitsFrom, hitWords, written, findFrom}
 use Rattle.laws.specs.Lists.{All, All-append, All-map, All-over}
 use Rattle.laws.specs.Counting.{filter-All}
 use Rattle.laws.specs.Grouped.{concat, twelve-words}
-use Rattle.laws.specs.Numbers.{five-numbers}
+use Rattle.laws.specs.Numbers.{under-start, All-start, under-five, hits-five, five-words}
 use Rattle.laws.specs.Layout.{layOut-read, read-length, read-fit, fit-words}
-use Rattle.demands.proofs.Queries.{hits-five}
 use Rattle.moves.proofs.Records.{record-at}
 use Rattle.hierarchy.specs.Hit.{recordOf, isKind, areKinds, numbersAt, namedBy, nthOf}
 use Rattle.hierarchy.specs.declared.Named.the-variants.{At}
@@ -115,17 +116,17 @@ module _ (w : List ℕ) (m : Machine) (h : readStore w ≡ ok m) where
 
 -- ---- find's output
 
-five-words : (P : List ℕ → Type 0) → ((a b c d e : ℕ) → P (a ∷ b ∷ c ∷ d ∷ e ∷ [])) → (h : List ℕ) → length h ≡ 5 → P h
-five-words P p [] l = absurd (omega arith)
-five-words P p (a ∷ []) l = absurd (omega arith)
-five-words P p (a ∷ b ∷ []) l = absurd (omega arith)
-five-words P p (a ∷ b ∷ c ∷ []) l = absurd (omega arith)
-five-words P p (a ∷ b ∷ c ∷ d ∷ []) l = absurd (omega arith)
-five-words P p (a ∷ b ∷ c ∷ d ∷ e ∷ []) l = p a b c d e
-five-words P p (a ∷ b ∷ c ∷ d ∷ e ∷ f ∷ hs) l = absurd (omega arith)
+of-five : (P : List ℕ → Type 0) → ((a b c d e : ℕ) → P (a ∷ b ∷ c ∷ d ∷ e ∷ [])) → (h : List ℕ) → length h ≡ 5 → P h
+of-five P p [] l = absurd (omega arith)
+of-five P p (a ∷ []) l = absurd (omega arith)
+of-five P p (a ∷ b ∷ []) l = absurd (omega arith)
+of-five P p (a ∷ b ∷ c ∷ []) l = absurd (omega arith)
+of-five P p (a ∷ b ∷ c ∷ d ∷ []) l = absurd (omega arith)
+of-five P p (a ∷ b ∷ c ∷ d ∷ e ∷ []) l = p a b c d e
+of-five P p (a ∷ b ∷ c ∷ d ∷ e ∷ f ∷ hs) l = absurd (omega arith)
 
 first-numbers : (h rest : List ℕ) → length h ≡ 5 → numbersAt (h ++ rest) 0 ≡ numbersAt h 0
-first-numbers h rest = five-words (λ x. numbersAt (x ++ rest) 0 ≡ numbersAt x 0) (λ a b c d e. refl) h
+first-numbers h rest = of-five (λ x. numbersAt (x ++ rest) 0 ≡ numbersAt x 0) (λ a b c d e. refl) h
 
 next-numbers : (h rest : List ℕ) (i : ℕ) → length h ≡ 5 → numbersAt (h ++ rest) (suc i) ≡ numbersAt rest i
 next-numbers h rest i =
@@ -135,7 +136,7 @@ next-numbers h rest i =
     let q₃ : suc i * 5 + 3 ≡ after (i * 5 + 3) = omega arith in
     let q₄ : suc i * 5 + 4 ≡ after (i * 5 + 4) = omega arith in
     let q₀ : suc i * 5 ≡ after (i * 5) = omega arith in
-    five-words (λ x. numbersAt (x ++ rest) (suc i) ≡ numbersAt rest i) (λ a b c d e. rw (q₁, q₂, q₃, q₄, q₀)) h
+    of-five (λ x. numbersAt (x ++ rest) (suc i) ≡ numbersAt rest i) (λ a b c d e. rw (q₁, q₂, q₃, q₄, q₀)) h
 
 hit-numbers : (hs : List (List ℕ)) → All (λ h. length h ≡ 5) hs → (i : ℕ) → i < length hs → (rest : List ℕ) → numbersAt (hitWords hs ++ rest) i ≡ numbersAt (getD hs i []) 0
 hit-numbers [] ls i l rest = absurd (omega arith)
@@ -143,47 +144,51 @@ hit-numbers (h ∷ hs) ls zero l rest = rw (append-assoc h (hitWords hs) rest) (
 hit-numbers (h ∷ hs) ls (suc i) l rest =
     rw (append-assoc h (hitWords hs) rest) (next-numbers h (hitWords hs ++ rest) i (ls .0) ∙ hit-numbers hs (ls .1) i (omega arith) rest)
 
-hits-length : (hs : List (List ℕ)) → All (λ h. length h ≡ 5) hs → length (hitWords hs) ≡ 5 * length hs
-hits-length [] ls = refl
-hits-length (h ∷ hs) ls = omega (arith, length-append h (hitWords hs), ls .0, hits-length hs (ls .1))
-
 All-at : (P : List ℕ → Type 0) (hs : List (List ℕ)) → All P hs → (i : ℕ) → i < length hs → P (getD hs i [])
 All-at P [] a i l = absurd (omega arith)
 All-at P (h ∷ hs) a zero l = a .0
 All-at P (h ∷ hs) a (suc i) l = All-at P hs (a .1) i (omega arith)
 
-hits-shown : (w t : List ℕ) (m : Machine) → readStore w ≡ ok m → All (λ h. namedBy w (numbersAt h 0) ≡ At (numbersAt h 0)) (hitsIn tables t m)
-unfolding hitsIn
-hits-shown w t m h =
-    let hit : Site → Bool = λ s. isHit (valueFrom tables 1 t s) in
-    All-over (λ h. namedBy w (numbersAt h 0) ≡ At (numbersAt h 0)) (λ (s : Site). s .numbers) (filter hit (atomsOf m))
-    (filter-All (λ s. namedBy w (numbersAt (s .numbers) 0) ≡ At (numbersAt (s .numbers) 0)) hit (atomsOf m) (All-map (λ s x. x .named) (atomsOf m) (sites-shown w m h)))
+hits-named : (w : List ℕ) (low : ℕ) (t : List ℕ) (atoms : List Site) → All (Shown w) atoms → All (λ h. namedBy w (numbersAt h 0) ≡ At (numbersAt h 0)) (hitsAmong tables low t atoms)
+hits-named w low t atoms shown =
+    let hit : Site → Bool = λ s. isHit (valueFrom tables low t s) in
+    All-over (λ h. namedBy w (numbersAt h 0) ≡ At (numbersAt h 0)) (λ (s : Site). s .numbers) (filter hit atoms)
+    (filter-All (λ s. namedBy w (numbersAt (s .numbers) 0) ≡ At (numbersAt (s .numbers) 0)) hit atoms (All-map (λ s x. x .named) atoms shown))
 
 module _ (w out : List ℕ) (n i : ℕ) (low : i < n) where
-  -- an answer without hits has none
-  none-listed : (r : ℕ) → r ∷ 0 ∷ [] ≡ 0 ∷ n ∷ [] → ⊥
-  none-listed r e = let z : 0 ≡ n = ap (λ (l : List ℕ). getD l 1 0) e in omega arith
+  -- a run that gives n hits has an i-th, and this names its records
+  abbrev Names : List ℕ × List ℕ → Type 0
+  Names run = run .0 ≡ 0 ∷ n ∷ [] → nthOf w (run .1) i ≡ At (numbersAt (run .1) i)
 
-  written-named : (hs : List (List ℕ)) → All (λ h. length h ≡ 5) hs → All (λ h. namedBy w (numbersAt h 0) ≡ At (numbersAt h 0)) hs → (b : Bool) → leb (5 * length hs) (length out) ≡ b
-      → written out (ok hs) .0 ≡ 0 ∷ n ∷ [] → nthOf w (written out (ok hs) .1) i ≡ At (numbersAt (written out (ok hs) .1) i)
+  -- a refused one gives none
+  by-refusal : (c : Refusal) → Names (written out (refused c))
+  by-refusal c e = let z : 0 ≡ n = ap (λ (l : List ℕ). getD l 1 0) e in absurd (omega arith)
+
+  by-room : (hs : List (List ℕ)) → All (λ h. length h ≡ 5) hs → All (λ h. namedBy w (numbersAt h 0) ≡ At (numbersAt h 0)) hs → (b : Bool) → leb (5 * length hs) (length out) ≡ b → Names (written out (ok hs))
   unfolding nthOf
-  written-named hs fs ns true q e =
+  by-room hs fs ns true q e =
       let words = hitWords hs ++ drop (5 * length hs) out in
       let listed : 0 ∷ length hs ∷ [] ≡ 0 ∷ n ∷ [] = rw q at e in
       let count : length hs ≡ n = ap (λ (l : List ℕ). getD l 1 0) listed in
-      let room : i < length words / 5 = omega (arith, length-append (hitWords hs) (drop (5 * length hs) out), hits-length hs fs) in
+      let room : i < length words / 5 = omega (arith, length-append (hitWords hs) (drop (5 * length hs) out), five-words hs fs) in
       let same : numbersAt words i ≡ numbersAt (getD hs i []) 0 = hit-numbers hs fs i (omega arith) (drop (5 * length hs) out) in
       rw (q, lt-ltb i (length words / 5) room, same) (All-at (λ h. namedBy w (numbersAt h 0) ≡ At (numbersAt h 0)) hs ns i (omega arith))
-  written-named hs fs ns false q e = absurd (none-listed 10 (rw q at e))
+  by-room hs fs ns false q e = rw q (by-refusal ShortOutput (rw q at e))
 
-  result-named : (t : List ℕ) (store : Result Machine) → readStore w ≡ store → (tree : Result (List Node)) → written out (store >>= (λ m. tree >> ok (hitsIn tables t m))) .0 ≡ 0 ∷ n ∷ []
-      → nthOf w (written out (store >>= (λ m. tree >> ok (hitsIn tables t m))) .1) i ≡ At (numbersAt (written out (store >>= (λ m. tree >> ok (hitsIn tables t m))) .1) i)
-  unfolding hitsIn
-  result-named t (ok m) h (ok ns) e = written-named (hitsIn tables t m) (hits-five tables 1 (atomsOf m) (five-numbers m) t) (hits-shown w t m h) (leb (5 * length (hitsIn tables t m)) (length out)) refl e
-  result-named t (ok m) h (refused c) e = absurd (none-listed (refusalNumber c) e)
-  result-named t (refused c) h tree e = absurd (none-listed (refusalNumber c) e)
+  module _ (start t : List ℕ) where
+    by-tree : (atoms : List Site) → All (λ s. length (s .numbers) ≡ 5) atoms → All (Shown w) atoms → (x : Result (List Node)) → Names (written out (x >> ok (hitsAmong tables (lowest start) t atoms)))
+    by-tree atoms five shown (ok ns) = by-room (hitsAmong tables (lowest start) t atoms) (hits-five tables (lowest start) t atoms five) (hits-named w (lowest start) t atoms shown) _ refl
+    by-tree atoms five shown (refused c) = by-refusal c
 
-  -- every hit of an accepted run of find names its records
-  pub find-named : (t : List ℕ) → findRun w t out .0 ≡ 0 ∷ n ∷ [] → nthOf w (findRun w t out .1) i ≡ At (numbersAt (findRun w t out .1) i)
-  unfolding findRun hitsOf
-  find-named t e = result-named t (readStore w) refl (readTree t) e
+    by-start : (m : Machine) → readStore w ≡ ok m → (x : Option (List Site)) → atomsFrom start m ≡ x → Names (written out (position x >>= (λ atoms. readTree t >> ok (hitsAmong tables (lowest start) t atoms))))
+    by-start m h (some atoms) e = by-tree atoms (under-five (stored m) atoms (under-start start m atoms e)) (All-start (Shown w) start m atoms e (sites-shown w m h)) (readTree t)
+    by-start m h none e = by-refusal NoPosition
+
+    by-store : (x : Result Machine) → readStore w ≡ x → Names (written out (x >>= (λ m. position (atomsFrom start m) >>= (λ atoms. readTree t >> ok (hitsAmong tables (lowest start) t atoms)))))
+    by-store (ok m) h = by-start m h (atomsFrom start m) refl
+    by-store (refused c) h = by-refusal c
+
+    -- every hit of an accepted run of find names its records
+    pub find-named : Names (findFrom w start t out)
+    unfolding findFrom hitsFrom
+    find-named = by-store (readStore w) refl

@@ -10,8 +10,7 @@ use lib.Dec.{eqb}
 use borrow.Author.Tests.{eqb-true, eqb-false, eq-eqb}
 use Rattle.machine.specs.Lists.{nth, splice, same}
 use Rattle.machine.specs.Store.{Branch, flat}
-use Rattle.machine.specs.Find.{size}
-use Rattle.machine.specs.Lookup.{numbered}
+use Rattle.machine.specs.Find.{size, numbered}
 use Rattle.machine.specs.Edit.{up, replaceAt}
 use Rattle.laws.specs.Lists.{and-then}
 use Rattle.laws.specs.Places.{replace-sum, flat-splits}

@@ -45,6 +45,14 @@ module _ {A : Type 0} where
   filter-All P p [] h = tt
   filter-All P p (x ∷ xs) h = keep-All P (p x) x (filter p xs) (h .0) (filter-All P p xs (h .1))
 
+  pub filter-few : (p : A → Bool) (xs : List A) → length (filter p xs) ≤ length xs
+  filter-few p [] = omega arith
+  filter-few p (x ∷ xs) = go (p x) (filter-few p xs)
+    where
+      go : (b : Bool) → length (filter p xs) ≤ length xs → length (keep b x (filter p xs)) ≤ suc (length xs)
+      go true l = omega arith
+      go false l = omega arith
+
 module _ {A B : Type 0} where
   pub All-concatMapFrom : (P : B → Type 0) (size : A → ℕ) (f : ℕ → A → List B) → ((n : ℕ) (x : A) → All P (f n x)) → (n : ℕ) (xs : List A) → All P (concatMapFrom size f n xs)
   All-concatMapFrom P size f h n [] = tt
@@ -68,6 +76,10 @@ pub rises-rising : (a b : ℕ) (xs : List ℕ) → Rises a b xs → Rising xs
 rises-rising a b [] h = tt
 rises-rising a b (x ∷ []) h = tt
 rises-rising a b (x ∷ y ∷ ys) h = (h .1 .0, rises-rising (suc x) b (y ∷ ys) (h .1))
+
+pub rises-few : (a b : ℕ) (xs : List ℕ) → Rises a b xs → a + length xs ≤ b
+rises-few a b [] h = omega arith
+rises-few a b (x ∷ xs) h = omega (arith, h .0, rises-few (suc x) b xs (h .1))
 
 -- ---- lists of hits, told apart by one of their numbers
 

@@ -25,7 +25,7 @@ module _ {A : Type 0} where
     pub was : xs ≡ before ++ (x ∷ after)
     pub is : (f : A → List A) → splice i f xs ≡ before ++ (f x ++ after)
 
-  pub around : (i : ℕ) (xs : List A) (x : A) → nth i xs ≡ some x → Around i xs x
+  unfoldable pub around : (i : ℕ) (xs : List A) (x : A) → nth i xs ≡ some x → Around i xs x
   around i [] x e = let z : _≡_ {A = ℕ} 0 1 = cc in absurd (omega arith)
   around zero (y ∷ xs) x e = let q : y ≡ x = cc in record { before = []; after = xs; was = rw q; is = λ f. rw q }
   around (suc i) (y ∷ xs) x e =

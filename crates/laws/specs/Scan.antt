@@ -1,4 +1,4 @@
--- The atoms of a machine are what one pass over its records finds, the last record of each kind being the place.
+-- The atoms of branches are what one pass over their records finds, the last record of each kind being the place.
 -- Assumes nothing.
 use Prim.Native.Nat.{ℕ, zero, suc, _+_, _-_, _≤_, _<_}
 use mathlib.Core.Path.{_≡_, refl, ap, _∙_}
@@ -11,9 +11,9 @@ use lib.Dec.{eqb}
 use borrow.Author.Tests.{lt-leb, ne-eqb}
 use Rattle.machine.specs.Lists.{keep, concatMap, concatMapFrom}
 use Rattle.machine.specs.Record.{Fields, Words, words, kind, fieldsOf}
-use Rattle.machine.specs.Store.{Branch, Machine, flat, records}
+use Rattle.machine.specs.Store.{Branch, flat}
 use Rattle.machine.specs.Query.{Place, window}
-use Rattle.machine.specs.Find.{Site, enter, below, top, size, atomsIn, atomsOf}
+use Rattle.machine.specs.Find.{Site, enter, below, size, atomsIn}
 use Rattle.laws.specs.Grouped.{words-kind}
 
 -- what stands above a record of kind h
@@ -62,7 +62,7 @@ scan-above h n s s′ [] e f = refl
 scan-above h n s s′ (r ∷ rs) e f =
     ap (λ (z : Site). let y = below (5 - kind r) n (fieldsOf (5 - kind r) r) z in keep (eqb (kind r) 5) y (scan (suc n) y rs)) (f (kind r) e)
 
-above-self : (k : ℕ) (s : Site) → Over k s → above (5 - k) s ≡ s
+pub above-self : (k : ℕ) (s : Site) → Over k s → above (5 - k) s ≡ s
 above-self k s o =
     let d = o .depth in
     let e : 5 - k - 1 ≡ 4 - k = omega arith in
@@ -79,7 +79,7 @@ enter-over (suc (suc zero)) l f e p = ap (enter 3 f) p
 enter-over (suc (suc (suc zero))) l f e p = ap (enter 4 f) p
 enter-over (suc (suc (suc (suc k)))) l f e p = absurd (omega arith)
 
-over-below : (k n : ℕ) (f : Fields (suc k)) (s : Site) → Over (suc k) s → Over k (below (suc k) n f s)
+pub over-below : (k n : ℕ) (f : Fields (suc k)) (s : Site) → Over (suc k) s → Over k (below (suc k) n f s)
 over-below k n f s o =
     let d = o .depth in
     record {
@@ -118,10 +118,10 @@ pub ends-branches : (h k : ℕ) → h + k ≡ 5 → k ≤ 4 → (ts : List (Bran
 ends-branches h k level l ts = rw append-nil at (ends-flats h k level l ts [] tt)
 
 -- what a pass over a branch and a rest finds
-abbrev Passes : (k : ℕ) → Branch k → Type 0
+abbrev pub Passes : (k : ℕ) → Branch k → Type 0
 Passes k t = (s : Site) → Over k s → (n : ℕ) (rest : List Words) → Ends (5 - k) rest → scan n s (flat k t ++ rest) ≡ atomsIn k s n t ++ scan (n + size k t) s rest
 
-scan-flats : (k : ℕ) → k ≤ 4 → ((t : Branch k) → Passes k t) → (ts : List (Branch k)) (s : Site) → Over k s → (n : ℕ) (rest : List Words) → Ends (5 - k) rest
+pub scan-flats : (k : ℕ) → k ≤ 4 → ((t : Branch k) → Passes k t) → (ts : List (Branch k)) (s : Site) → Over k s → (n : ℕ) (rest : List Words) → Ends (5 - k) rest
     → scan n s (concatMap (flat k) ts ++ rest) ≡ concatMapFrom (size k) (atomsIn k s) n ts ++ scan (n + length (concatMap (flat k) ts)) s rest
 scan-flats k l f [] s o n rest e = rw add-zero
 scan-flats k l f (t ∷ ts) s o n rest e =
@@ -143,7 +143,3 @@ scan-branch (suc k) l t s o n rest e =
     let j : n + suc (length (concatMap (flat k) (t .1))) ≡ suc n + length (concatMap (flat k) (t .1)) = omega arith in
     scan-words (suc k) n (t .0) s (concatMap (flat k) (t .1) ++ rest) o
     ∙ rw (ne-eqb (5 - suc k) 5 (λ z. omega arith), j, ← i) (scan-flats k (omega arith) (λ u. scan-branch k (omega arith) u) (t .1) b (over-below k n (t .0) s o) (suc n) rest ends)
-
-pub scan-machine : (m : Machine) → scan 0 top (records m) ≡ atomsOf m
-unfolding atomsOf scan window
-scan-machine m = rw (append-nil, append-nil) at (scan-flats 4 (omega arith) (scan-branch 4 (omega arith)) m top (record { depth = refl; place = refl }) 0 [] tt)

@@ -9,12 +9,12 @@ use lib.ListN.{length}
 use lib.Dec.{leb, eqb}
 use borrow.Author.Tests.{leb-true, ne-eqb, not-true}
 use Rattle.machine.specs.Lists.{isEmpty, orElse, all, sum, keep, filter, nth, splice, firstWhere, lastWhere, same}
-use Rattle.machine.specs.Answer.{Result, ok, refused, _>>=_, _>>_, need, refusalNumber}
+use Rattle.machine.specs.Answer.{Result, ok, refused, _>>=_, _>>_, need, position, refusalNumber}
 use Rattle.machine.specs.Text.{Optional, chainId, insertionCode, conformerName, alternativeLocation, atomName, plain, trim, toUpper, pack, fit, uppercaseOr, byFlag, optional, storedBy, absentOr}
 use Rattle.machine.specs.Record.{Fields, goodFields, goodValues}
 use Rattle.machine.specs.Store.{Branch, Machine, records, flat, stored, capacity, atomCount}
 use Rattle.machine.specs.Query.{readTree}
-use Rattle.machine.specs.Edit.{Addition, Call, AddModel, AddAtom, RemoveChain, RemoveResidue, RemoveConformer, RemoveAtom, RemoveChainById, RemoveResidueById, RemoveConformerById, RemoveAtomBySerialNumber, RemoveAtomsBy, RemoveEmpty, JoinModels, JoinChains, JoinResidues, JoinConformers, Change, up, branchAt, replaceAt, position, fits, addModel, accept, prepare, newAtom, Which, first, last, pick, putIn, upsert, intoChains, addPrepared, addAtom, removeAt, root, withChildren, without, removeFirst, withFound, keepAtoms, removeAtomsBy, nonEmpty, removeEmpty, joinAt, withMachine, machineStep, answer, next}
+use Rattle.machine.specs.Edit.{Addition, Call, AddModel, AddAtom, RemoveChain, RemoveResidue, RemoveConformer, RemoveAtom, RemoveChainById, RemoveResidueById, RemoveConformerById, RemoveAtomBySerialNumber, RemoveAtomsBy, RemoveEmpty, JoinModels, JoinChains, JoinResidues, JoinConformers, Change, up, branchAt, replaceAt, fits, addModel, accept, prepare, newAtom, Which, first, last, pick, putIn, upsert, intoChains, addPrepared, addAtom, removeAt, root, withChildren, without, removeFirst, withFound, keepAtoms, removeAtomsBy, nonEmpty, removeEmpty, joinAt, withMachine, machineStep, answer, next}
 use Rattle.machine.specs.declared.Refusal.{Refusal}
 use Rattle.machine.specs.declared.Refusal.the-variants.{BadLength, BrokenLayout, TreeShape, TreeNode, NoPosition, BadIdentifier, BadValue, NoCapacity, JoinWithItself, ShortOutput, BadFile, TooWide, ShortText, BadInsertionCode, BadConformer, BadAtomName, BadList, ShortAnswers}
 use Rattle.machine.specs.declared.Name.{Name}

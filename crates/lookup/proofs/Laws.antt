@@ -12,8 +12,8 @@ use Rattle.machine.specs.Answer.{ok, badName, lookedUpNumbers}
 use Rattle.machine.specs.Text.{Optional, optionalOf}
 use Rattle.machine.specs.Record.{Words, words}
 use Rattle.machine.specs.Store.{Branch, flat, records, group}
-use Rattle.machine.specs.Find.{size}
-use Rattle.machine.specs.Lookup.{numbered, firstChild, lookupIn, lookedUp}
+use Rattle.machine.specs.Find.{size, numbered}
+use Rattle.machine.specs.Lookup.{firstChild, lookupIn, lookedUp}
 use Rattle.machine.specs.declared.LookedUp.the-variants.{At, NotFound, Refused}
 use Rattle.machine.specs.declared.Refusal.{Refusal}
 use Rattle.machine.specs.declared.Name.the-variants.{AlternativeLocation}

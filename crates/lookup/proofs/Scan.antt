@@ -12,9 +12,9 @@ use Rattle.machine.specs.Lists.{concatMap}
 use Rattle.machine.specs.Text.{Optional}
 use Rattle.machine.specs.Record.{Words, words, kind}
 use Rattle.machine.specs.Store.{Branch, flat, group, chunks}
-use Rattle.machine.specs.Find.{size}
+use Rattle.machine.specs.Find.{size, numbered}
 use Rattle.machine.specs.Edit.{root}
-use Rattle.machine.specs.Lookup.{numbered, serials}
+use Rattle.machine.specs.Lookup.{serials}
 use Rattle.laws.specs.Grouped.{words-kind, chunks-length}
 use Rattle.seek.specs.Seek.{Within, recordAt, recordsIn, descendants, atChild, toEnd, spanAt, spanOf}
 use Rattle.seek.proofs.Below.{chunks-take, recordsIn-cons, recordsIn-nil, child-here, child-span, under, flat-root}

@@ -11,8 +11,8 @@ use Rattle.machine.specs.Answer.{ok, _>>_, need, badName}
 use Rattle.machine.specs.Text.{Optional, goodFlag, matchesOptional}
 use Rattle.machine.specs.Record.{Words, kind}
 use Rattle.machine.specs.Store.{Branch, Machine, flat, group}
-use Rattle.machine.specs.Find.{size}
-use Rattle.machine.specs.Lookup.{numbered, firstOf, serials, spans, hasAtom, inFirst, lookedUp}
+use Rattle.machine.specs.Find.{size, numbered}
+use Rattle.machine.specs.Lookup.{firstOf, serials, spans, hasAtom, inFirst, lookedUp}
 use Rattle.machine.specs.declared.Name.the-variants.{AlternativeLocation}
 use Rattle.seek.specs.Seek.{Within, recordsIn}
 

@@ -2,6 +2,7 @@
 use Prim.Native.Nat.{ℕ}
 use mathlib.Core.Bool.{Bool, true, false}
 use mathlib.Core.List.{List, [], _∷_}
+use mathlib.Core.Option.{Option, none, some}
 use Rattle.machine.specs.declared.Refusal.{Refusal}
 use Rattle.machine.specs.declared.Refusal.the-variants.{BadLength, BrokenLayout, TreeShape, TreeNode, NoPosition, BadIdentifier, BadValue, NoCapacity, JoinWithItself, ShortOutput, BadFile, TooWide, ShortText, BadInsertionCode, BadConformer, BadAtomName, BadList, ShortAnswers}
 use Rattle.machine.specs.declared.Name.{Name}
@@ -114,6 +115,11 @@ refused r >> b = refused r
 abbrev pub need : Bool → Refusal → Result (Unit {0})
 need true r = ok tt
 need false r = refused r
+
+-- "5 no such position"
+abbrev pub position : {A : Type 0} → Option A → Result A
+position none = refused NoPosition
+position (some x) = ok x
 
 -- the value, or what the refusal gives
 abbrev pub ifRefused : {A : Type 0} → (Refusal → A) → Result A → A

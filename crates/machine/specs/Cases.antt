@@ -11,7 +11,7 @@ use Rattle.machine.specs.Text.{packed, unpacked, withoutZeros, textOf, t
 use Rattle.machine.specs.Record.{Words, words, fieldsOf, goodValues, goodFields, goodRecord, readOut}
 use Rattle.machine.specs.Store.{Machine, stored, flat, atomCount, laid, layOut, inOrder, goodLayout, sections, group, readStore}
 use Rattle.machine.specs.Query.{codes, nodeOf, nodesOf, run, leavesOne, readTree, treeValue, dropSign, close, termValue, window, tables, packedName}
-use Rattle.machine.specs.Find.{enter, atomsIn, atomsOf, hitsIn, hitsOf, findRun}
+use Rattle.machine.specs.Find.{enter, atomsIn, atomsOf, atomsUnder, hitsOf, hitsFrom, findRun, findFrom}
 use Rattle.machine.specs.Edit.{Addition, addition, Call, AddModel, AddAtom, branchAt, replaceAt, addModel, prepare, upsert, addPrepared, machineStep, stepBy, storeStep, storeAfter, storeAnswers}
 use Rattle.machine.specs.Program.{readInput, digits, printed, programRun}
 use Rattle.machine.specs.Demand.{undecided}
@@ -166,5 +166,5 @@ cases =
     ∷ []
 
 pub worked : map (λ (c : Case). c .given) cases ≡ map (λ (c : Case). c .stated) cases
-unfolding cases S renamed withBFactor packed unpacked withoutZeros textOf trimStart trim chainId uppercaseOr atomName matches storedBy packedText words fieldsOf goodValues goodFields goodRecord readOut flat atomCount laid layOut inOrder goodLayout sections group readStore codes nodeOf nodesOf run leavesOne readTree treeValue dropSign close termValue tables window enter atomsIn atomsOf hitsIn hitsOf findRun branchAt replaceAt addModel prepare upsert addPrepared machineStep stepBy storeStep storeAfter storeAnswers readInput digits printed programRun undecided ofBits sub lt
+unfolding cases S renamed withBFactor packed unpacked withoutZeros textOf trimStart trim chainId uppercaseOr atomName matches storedBy packedText words fieldsOf goodValues goodFields goodRecord readOut flat atomCount laid layOut inOrder goodLayout sections group readStore codes nodeOf nodesOf run leavesOne readTree treeValue dropSign close termValue tables window enter atomsIn atomsOf atomsUnder hitsFrom findFrom branchAt replaceAt addModel prepare upsert addPrepared machineStep stepBy storeStep storeAfter storeAnswers readInput digits printed programRun undecided ofBits sub lt
 worked = refl

@@ -7,7 +7,7 @@ use mathlib.Core.Option.{Option, none, some}
 use lib.ListN.{length}
 use lib.Dec.{leb, eqb}
 use Rattle.machine.specs.Lists.{isEmpty, filter, nth, splice, firstWhere, lastWhere, andThen, same}
-use Rattle.machine.specs.Answer.{Result, ok, refused, _>>=_, _>>_, need, ifRefused, badName, editedNumbers}
+use Rattle.machine.specs.Answer.{Result, ok, refused, _>>=_, _>>_, need, position, ifRefused, badName, editedNumbers}
 use Rattle.machine.specs.Text.{Optional, chainId, insertionCode, conformerName, alternativeLocation, atomName, optional, goodFlag, matches, matchesOptional}
 use Rattle.machine.specs.Record.{Fields, Atom, Conformer, Residue, Chain, goodValues}
 use Rattle.machine.specs.Store.{Branch, Machine, records, stored, capacity, layOut, readStore}
@@ -18,7 +18,7 @@ use Rattle.machine.specs.declared.Prepared.{Prepared}
 use Rattle.machine.specs.declared.Prepared.the-variants.{Stored, Absent, Bad}
 use Rattle.machine.specs.declared.Name.{Name}
 use Rattle.machine.specs.declared.Name.the-variants.{ChainId, InsertionCode, ConformerName, AlternativeLocation, AtomName}
-use Rattle.machine.specs.declared.Refusal.the-variants.{NoPosition, BadValue, NoCapacity, JoinWithItself}
+use Rattle.machine.specs.declared.Refusal.the-variants.{BadValue, NoCapacity, JoinWithItself}
 use Rattle.machine.specs.declared.Edited as Edited
 use Rattle.machine.specs.declared.NewAtom.{NewAtom}
 use Rattle.machine.specs.declared.PreparedAddition.{PreparedAddition}
@@ -84,11 +84,6 @@ unfoldable pub replaceAt : (d j : ℕ) → List ℕ → List (Branch j) → List
 replaceAt d j [] new ts = ts
 replaceAt zero j (i ∷ is) new ts = splice i (λ t. new) ts
 replaceAt (suc d) j (i ∷ is) new ts = splice i (λ t. (t .0, replaceAt d j is new (t .1)) ∷ []) ts
-
--- "5 no such position"
-abbrev pub position : {A : Type 0} → Option A → Result A
-position none = refused NoPosition
-position (some x) = ok x
 
 -- ---- additions
 

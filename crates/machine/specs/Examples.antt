@@ -1,6 +1,6 @@
 -- Small examples beside document 01's ten cases, each telling a definition from a near miss: one table, one theorem.
 -- Assumes nothing.
-use Prim.Native.Nat.{ℕ}
+use Prim.Native.Nat.{ℕ, _*_}
 use mathlib.Core.Path.{_≡_, refl}
 use mathlib.Core.Bool.{Bool, cond}
 use mathlib.Core.List.{List, [], _∷_, _++_, map}
@@ -12,11 +12,11 @@ use Rattle.machine.specs.Text.{packed, pack, unpacked, withoutZeros, tex
 use Rattle.machine.specs.Record.{Words, words, fieldsOf, goodValues, goodFields, goodRecord, readOut}
 use Rattle.machine.specs.Store.{flat, atomCount, laid, layOut, inOrder, goodLayout, sections, group, readStore, openRun}
 use Rattle.machine.specs.Query.{codes, nodeOf, nodesOf, run, leavesOne, readTree, treeValue, termValue, window, tables, packedName}
-use Rattle.machine.specs.Find.{enter, atomsIn, atomsOf, hitsIn, hitsOf, findRun}
+use Rattle.machine.specs.Find.{enter, numbered, atomsIn, atomsUnder, hitsFrom, findRun, findFrom}
 use Rattle.machine.specs.Edit.{addition, Call, AddModel, AddAtom, RemoveChain, RemoveAtom, RemoveChainById, RemoveResidueById, RemoveConformerById, RemoveAtomBySerialNumber, RemoveAtomsBy, RemoveEmpty, JoinModels, JoinResidues, branchAt, replaceAt, addModel, prepare, upsert, addPrepared, removeAt, removeFirst, keepAtoms, removeAtomsBy, nonEmpty, removeEmpty, joinAt, machineStep, stepBy, storeStep, storeAfter, storeAnswers}
-use Rattle.machine.specs.Lookup.{numbered, serials, lookupIn, lookupRun}
+use Rattle.machine.specs.Lookup.{serials, lookupIn, lookupRun}
 use Rattle.machine.specs.Program.{readInput, digits, printed, programRun}
-use Rattle.machine.specs.Cases.{record12, store, S, node, element7, found, absent, present, atom, zeros, atomRecord, file, eightBytes, Case}
+use Rattle.machine.specs.Cases.{record12, store, S, renamed, node, element7, found, absent, present, atom, zeros, atomRecord, file, eightBytes, Case}
 use Rattle.machine.specs.declared.Prepared.{Prepared}
 use Rattle.machine.specs.declared.Prepared.the-variants.{Stored, Absent, Bad}
 
@@ -104,6 +104,15 @@ twoLocations first second = storeAfter (zeros 97) (AddModel 1 ∷ AddAtom 0 (ato
 abbrev oneModel : List ℕ
 oneModel = store 73 (record12 (1 ∷ 1 ∷ []) ∷ [])
 
+-- ---- searches from lower down
+
+-- the answer from a start, with room for n hits, and the words of the hits
+abbrev from : ℕ → List ℕ → List ℕ → List ℕ → List ℕ
+from n w start t = let r = findFrom w start t (replicate (5 * n) 8) in r .0 ++ r .1
+
+abbrev known : List ℕ
+known = node 28 0 0
+
 -- ---- names
 
 abbrev badFlag : Optional
@@ -187,6 +196,24 @@ examples =
     -- find: an output too short stays, and one that fits exactly is enough
     ∷ example (lines (findRun S element7 (replicate 9 8) .0 ∷ findRun S element7 (replicate 9 8) .1 ∷ [])) (10 ∷ 0 ∷ replicate 9 8)
     ∷ example (findRun S element7 (replicate 10 8) .0) (0 ∷ 2 ∷ [])
+    -- from lower down: what stands under the start, by all five numbers; its own terms and those above exclude nothing
+    ∷ example (from 3 serialStore (0 ∷ []) (node 1 2 0)) (0 ∷ 3 ∷ 0 ∷ 2 ∷ 3 ∷ 4 ∷ 5 ∷ 0 ∷ 2 ∷ 3 ∷ 4 ∷ 6 ∷ 0 ∷ 2 ∷ 7 ∷ 8 ∷ 9 ∷ [])
+    ∷ example (from 3 serialStore (0 ∷ 1 ∷ []) (node 3 (packedName "X") 0)) (0 ∷ 3 ∷ 0 ∷ 2 ∷ 3 ∷ 4 ∷ 5 ∷ 0 ∷ 2 ∷ 3 ∷ 4 ∷ 6 ∷ 0 ∷ 2 ∷ 7 ∷ 8 ∷ 9 ∷ [])
+    ∷ example (from 1 serialStore (1 ∷ 0 ∷ 0 ∷ []) (node 5 8 0)) (0 ∷ 1 ∷ 10 ∷ 11 ∷ 12 ∷ 13 ∷ 14 ∷ [])
+    -- those below it are decided
+    ∷ example (from 1 serialStore (0 ∷ 1 ∷ []) (node 5 8 0)) (0 ∷ 1 ∷ 0 ∷ 2 ∷ 7 ∷ 8 ∷ 9 ∷ [])
+    ∷ example (from 1 S (0 ∷ 0 ∷ 0 ∷ []) (node 9 (packedName "HOH") 0)) (0 ∷ 0 ∷ replicate 5 8)
+    -- from a conformer Backbone and SideChain go by the atom's name alone, from a residue by the conformer's too
+    ∷ example (from 1 renamed (0 ∷ 0 ∷ 0 ∷ 0 ∷ []) (node 20 0 0)) (0 ∷ 1 ∷ 0 ∷ 1 ∷ 2 ∷ 3 ∷ 4 ∷ [])
+    ∷ example (from 1 renamed (0 ∷ 0 ∷ 0 ∷ 0 ∷ []) (node 21 0 0)) (0 ∷ 1 ∷ 0 ∷ 1 ∷ 2 ∷ 3 ∷ 5 ∷ [])
+    ∷ example (from 1 renamed (0 ∷ 0 ∷ 0 ∷ []) (node 20 0 0)) (0 ∷ 0 ∷ replicate 5 8)
+    -- a start without atoms lists nothing; 2 comes before 5, 5 before 3, and 3 before 10
+    ∷ example (from 1 serialStore (0 ∷ 0 ∷ []) known) (0 ∷ 0 ∷ replicate 5 8)
+    ∷ example (from 1 (zeros 12 ++ (12 ∷ [])) (0 ∷ []) known) (2 ∷ 0 ∷ replicate 5 8)
+    ∷ example (from 1 serialStore (0 ∷ 2 ∷ []) []) (5 ∷ 0 ∷ replicate 5 8)
+    ∷ example (from 1 S (0 ∷ 0 ∷ 0 ∷ 0 ∷ 0 ∷ []) known) (5 ∷ 0 ∷ replicate 5 8)
+    ∷ example (from 0 S (0 ∷ 0 ∷ []) []) (3 ∷ 0 ∷ [])
+    ∷ example (from 1 S (0 ∷ 0 ∷ []) known) (10 ∷ 0 ∷ replicate 5 8)
     -- edits: what is removed, a list that goes on after a refusal, found 0, undecided atoms stay
     ∷ example (lines (onS (RemoveChain 0 0 ∷ RemoveChain 0 0 ∷ []))) (0 ∷ 1 ∷ 2 ∷ 5 ∷ 0 ∷ 0 ∷ [])
     ∷ example (lines (onS (RemoveChain 0 1 ∷ RemoveChain 0 0 ∷ []))) (5 ∷ 0 ∷ 0 ∷ 0 ∷ 1 ∷ 2 ∷ [])
@@ -234,7 +261,7 @@ examples =
     ∷ []
 
 pub shown : map (λ (c : Case). c .given) examples ≡ map (λ (c : Case). c .stated) examples
-unfolding examples serialStore S packed unpacked withoutZeros textOf trimStart trim chainId uppercaseOr atomName matches storedBy packedText words fieldsOf goodValues goodFields goodRecord readOut flat atomCount laid layOut inOrder goodLayout sections group readStore openRun codes nodeOf nodesOf run leavesOne readTree treeValue termValue tables window enter atomsIn atomsOf hitsIn hitsOf findRun branchAt replaceAt addModel prepare upsert addPrepared removeAt removeFirst keepAtoms removeAtomsBy nonEmpty removeEmpty joinAt machineStep stepBy storeStep storeAfter storeAnswers numbered serials lookupIn lookupRun readInput digits printed programRun ofBits sub lt before
+unfolding examples serialStore S renamed packed unpacked withoutZeros textOf trimStart trim chainId uppercaseOr atomName matches storedBy packedText words fieldsOf goodValues goodFields goodRecord readOut flat atomCount laid layOut inOrder goodLayout sections group readStore openRun codes nodeOf nodesOf run leavesOne readTree treeValue termValue tables window enter atomsIn atomsUnder hitsFrom findFrom branchAt replaceAt addModel prepare upsert addPrepared removeAt removeFirst keepAtoms removeAtomsBy nonEmpty removeEmpty joinAt machineStep stepBy storeStep storeAfter storeAnswers numbered serials lookupIn lookupRun readInput digits printed programRun ofBits sub lt before
 shown = refl
 
 -- "over 65,536 bytes": the next multiple of 8 is refused

@@ -1,12 +1,12 @@
 -- Document 01, "Trees and find": the stored atoms with their places, and find. Nothing here knows of pruning. Assumes nothing.
-use Prim.Native.Nat.{ℕ, zero, suc, _*_}
+use Prim.Native.Nat.{ℕ, zero, suc, _+_, _*_}
 use mathlib.Core.Bool.{cond}
 use mathlib.Core.List.{List, [], _∷_, _++_, map}
-use mathlib.Core.Option.{none, some}
+use mathlib.Core.Option.{Option, none, some}
 use lib.ListN.{length, drop}
 use lib.Dec.{leb}
-use Rattle.machine.specs.Lists.{filter, concatMap, concatMapFrom}
-use Rattle.machine.specs.Answer.{Result, ok, refused, _>>=_, _>>_, foundNumbers}
+use Rattle.machine.specs.Lists.{filter, nth, concatMap, concatMapFrom, andThen}
+use Rattle.machine.specs.Answer.{Result, ok, refused, _>>=_, _>>_, position, foundNumbers}
 use Rattle.machine.specs.Record.{Fields}
 use Rattle.machine.specs.Store.{Branch, Machine, flat, readStore}
 use Rattle.machine.specs.Kleene.{isHit}
@@ -44,6 +44,11 @@ top = record { numbers = []; place = nowhere }
 abbrev pub size : (k : ℕ) → Branch k → ℕ
 size k t = length (flat k t)
 
+-- branches with their record numbers, from n on
+unfoldable pub numbered : (k : ℕ) → ℕ → List (Branch k) → List (ℕ × Branch k)
+numbered k n [] = []
+numbered k n (t ∷ ts) = (n, t) ∷ numbered k (n + size k t) ts
+
 -- the atoms of a branch whose own record has number n, in hierarchy order
 unfoldable pub atomsIn : (k : ℕ) → Site → ℕ → Branch k → List Site
 atomsIn zero s n a = below zero n a s ∷ []
@@ -53,6 +58,21 @@ atomsIn (suc k) s n t = concatMapFrom (size k) (atomsIn k (below (suc k) n (t .0
 unfoldable pub atomsOf : Machine → List Site
 atomsOf m = concatMapFrom (size 4) (atomsIn 4 top) 0 m
 
+-- change request §4: "stored atoms are then those under the start", which is a position of none to four indexes, here among branches of level k that stand
+-- under s and are numbered from n on; none where there is no such position
+unfoldable pub atomsUnder : (k : ℕ) → Site → ℕ → List ℕ → List (Branch k) → Option (List Site)
+atomsUnder k s n [] ts = some (concatMapFrom (size k) (atomsIn k s) n ts)
+atomsUnder zero s n (i ∷ is) ts = none
+atomsUnder (suc k) s n (i ∷ is) ts = andThen (nth i (numbered (suc k) n ts)) (λ t. atomsUnder k (below (suc k) (t .0) (t .1 .0) s) (suc (t .0)) is (t .1 .1))
+
+-- the start with no index is the whole machine
+abbrev pub atomsFrom : List ℕ → Machine → Option (List Site)
+atomsFrom start m = atomsUnder 4 top 0 start m
+
+-- "Terms of the start's own level and above stay undecided": the first kind that is known
+abbrev pub lowest : List ℕ → ℕ
+lowest start = suc (length start)
+
 -- "A tree's value at an atom comes from Kleene's tables", with the terms of the kinds from low on at their values there, and those above undecided
 abbrev pub valueFrom : Names → ℕ → List ℕ → Site → Tri
 valueFrom names low t s = treeValue (termValue names (window low 5 (s .place))) t
@@ -61,15 +81,17 @@ valueFrom names low t s = treeValue (termValue names (window low 5 (s .place))) 
 abbrev pub hitsAmong : Names → ℕ → List ℕ → List Site → List (List ℕ)
 hitsAmong names low t atoms = map (λ s. s .numbers) (filter (λ s. isHit (valueFrom names low t s)) atoms)
 
--- "with the terms of all five levels at their values there"
-unfoldable pub hitsIn : Names → List ℕ → Machine → List (List ℕ)
-hitsIn names t m = hitsAmong names 1 t (atomsOf m)
-
-unfoldable pub hitsOf : List ℕ → List ℕ → Result (List (List ℕ))
-hitsOf w t = do
+-- the hits of a tree from a start; refused in the order 1, 2, 5, then the tree
+unfoldable pub hitsFrom : List ℕ → List ℕ → List ℕ → Result (List (List ℕ))
+hitsFrom w start t = do
   m ← readStore w
+  atoms ← position (atomsFrom start m)
   readTree t
-  ok (hitsIn tables t m)
+  ok (hitsAmong tables (lowest start) t atoms)
+
+-- on the whole store, "with the terms of all five levels at their values there"
+abbrev pub hitsOf : List ℕ → List ℕ → Result (List (List ℕ))
+hitsOf w t = hitsFrom w [] t
 
 abbrev pub hitWords : List (List ℕ) → List ℕ
 hitWords hs = concatMap (λ (h : List ℕ). h) hs
@@ -82,6 +104,10 @@ written out (ok hs) =
     (foundNumbers (Found.the-variants.Hits (length hs)), hitWords hs ++ drop (5 * length hs) out)
     (foundNumbers (Found.the-variants.Refused ShortOutput), out)
 
--- find: the answer's numbers, and the output's words afterwards
-unfoldable pub findRun : List ℕ → List ℕ → List ℕ → List ℕ × List ℕ
-findRun w t out = written out (hitsOf w t)
+-- find from a start: the answer's numbers, and the output's words afterwards
+unfoldable pub findFrom : List ℕ → List ℕ → List ℕ → List ℕ → List ℕ × List ℕ
+findFrom w start t out = written out (hitsFrom w start t)
+
+-- find on the whole store
+abbrev pub findRun : List ℕ → List ℕ → List ℕ → List ℕ × List ℕ
+findRun w t out = findFrom w [] t out

@@ -1,5 +1,5 @@
 -- Document 01, "Serial lookup". Assumes nothing.
-use Prim.Native.Nat.{ℕ, zero, suc, _+_}
+use Prim.Native.Nat.{ℕ, zero, suc}
 use mathlib.Core.Bool.{Bool, false, _&&_, cond}
 use mathlib.Core.List.{List, [], _∷_}
 use mathlib.Core.Option.{Option, none, some}
@@ -8,15 +8,10 @@ use Rattle.machine.specs.Lists.{any, lastOf, concatMap, andThen}
 use Rattle.machine.specs.Answer.{Result, ok, refused, _>>=_, _>>_, need, badName, lookedUpNumbers}
 use Rattle.machine.specs.Text.{Optional, goodFlag, matchesOptional}
 use Rattle.machine.specs.Store.{Branch, Machine, readStore}
-use Rattle.machine.specs.Find.{size}
+use Rattle.machine.specs.Find.{numbered}
 use Rattle.machine.specs.declared.Name.the-variants.{AlternativeLocation}
 use Rattle.machine.specs.declared.RecordNumbers.{RecordNumbers}
 use Rattle.machine.specs.declared.LookedUp as LookedUp
-
--- branches with their record numbers, from n on
-unfoldable pub numbered : (k : ℕ) → ℕ → List (Branch k) → List (ℕ × Branch k)
-numbered k n [] = []
-numbered k n (t ∷ ts) = (n, t) ∷ numbered k (n + size k t) ts
 
 abbrev pub firstOf : {A : Type 0} → (A → Bool) → List A → Option A
 firstOf p [] = none

@@ -8,14 +8,14 @@ use native.Mathlib.Omega.{arith}
 use lib.Dec.{leb, eqb}
 use borrow.Author.Tests.{leb-true}
 use Rattle.machine.specs.Lists.{all, same, nth, splice, andThen}
-use Rattle.machine.specs.Answer.{Result, ok, refused, _>>_, need, badName}
+use Rattle.machine.specs.Answer.{Result, ok, refused, _>>_, need, position, badName}
 use Rattle.machine.specs.Text.{goodFlag, matches, matchesOptional}
 use Rattle.machine.specs.Record.{Fields, goodValues}
 use Rattle.machine.specs.Store.{Branch, Machine}
 use Rattle.machine.specs.Kleene.{isTrue}
 use Rattle.machine.specs.Query.{readTree, treeValue, termValue, tables}
 use Rattle.machine.specs.Find.{enter, nowhere}
-use Rattle.machine.specs.Edit.{Call, AddModel, AddAtom, RemoveChain, RemoveResidue, RemoveConformer, RemoveAtom, RemoveChainById, RemoveResidueById, RemoveConformerById, RemoveAtomBySerialNumber, RemoveAtomsBy, RemoveEmpty, JoinModels, JoinChains, JoinResidues, JoinConformers, Change, up, branchAt, replaceAt, position, root, removeFirst, prepare, newAtom, intoChains, machineStep}
+use Rattle.machine.specs.Edit.{Call, AddModel, AddAtom, RemoveChain, RemoveResidue, RemoveConformer, RemoveAtom, RemoveChainById, RemoveResidueById, RemoveConformerById, RemoveAtomBySerialNumber, RemoveAtomsBy, RemoveEmpty, JoinModels, JoinChains, JoinResidues, JoinConformers, Change, up, branchAt, replaceAt, root, removeFirst, prepare, newAtom, intoChains, machineStep}
 use Rattle.machine.specs.Edit as Plain
 use Rattle.machine.specs.declared.Refusal.{Refusal}
 use Rattle.machine.specs.declared.Refusal.the-variants.{BadValue, JoinWithItself}

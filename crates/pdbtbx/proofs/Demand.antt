@@ -3,28 +3,30 @@ use Prim.Native.Nat.{ℕ}
 use mathlib.Core.Path.{_≡_, refl, sym, ap, subst, _∙_}
 use mathlib.Core.Bool.{Bool, true, false}
 use mathlib.Core.List.{List, [], _∷_, map}
-use mathlib.Core.Option.{Option, some}
+use mathlib.Core.Option.{Option, some, Option·map}
 use native.Mathlib.Omega.{arith}
 use lib.ListN.{length}
 use borrow.Author.Tests.{le-leb}
 use Rattle.machine.specs.Lists.{keep, filter, sum, andThen}
 use Rattle.machine.specs.Answer.{Result, ok, refused, _>>_, need}
 use Rattle.machine.specs.Store.{Machine, flat, records, capacity, layOut, readStore, openRun}
-use Rattle.machine.specs.Find.{hitsIn, size}
+use Rattle.machine.specs.Query.{tables}
+use Rattle.machine.specs.Find.{Site, size, atomsFrom, lowest, hitsAmong, findFrom}
 use Rattle.machine.specs.Edit.{Call, Change, machineStep, answer, next, machineAfter, machineAnswers, storeStep}
-use Rattle.machine.specs.Demand.{accepts, Accepted}
+use Rattle.machine.specs.Demand.{accepts, Accepted, list}
 use Rattle.machine.specs.declared.Refusal.{Refusal}
 use Rattle.machine.specs.declared.Refusal.the-variants.{NoCapacity}
 use Rattle.laws.specs.Lists.{length-concatMap}
 use Rattle.laws.specs.Good.{Fit}
 use Rattle.laws.specs.Layout.{read-layOut}
 use Rattle.laws.specs.Steps.{step-keeps, refusal-number}
-use Rattle.demands.proofs.Demand.{demand3, opened-length, store-step, find-listed}
+use Rattle.demands.proofs.Queries.{Listed}
+use Rattle.demands.proofs.Demand.{demand3, opened-length, store-step, find-listed, start-found}
 use Rattle.pdbtbx.specs.Structs.{PDB}
 use Rattle.pdbtbx.specs.Words.{structOf, pdbOf, machineFrom}
-use Rattle.pdbtbx.specs.Find.{countOf, findIn}
+use Rattle.pdbtbx.specs.Find.{countOf, findAt}
 use Rattle.pdbtbx.specs.Calls.{searchOf, edit, edits}
-use Rattle.pdbtbx.specs.Demand.{InDomain, bit, foundBy, acceptedOf, store, outcome, Demand2}
+use Rattle.pdbtbx.specs.Demand.{Reads, InDomain, bit, foundBy, acceptedOf, store, outcome, Demand2}
 use Rattle.pdbtbx.proofs.Trees.{reads}
 use Rattle.pdbtbx.proofs.Hits.{sum-map, count-size}
 use Rattle.pdbtbx.proofs.Found.{find-hits}
@@ -164,9 +166,25 @@ module _ (w : List ℕ) (calls : List Call) (o : Accepted (openRun w)) where
       let x = same-step (length w) after (both .fit .good) c d (found, pdb) (ap (edit c) (sym (both .held)) ∙ e) in
       rw held (store-step (length w) after c (opened-length w o) (both .fit) ∙ took (length w) after (both .fit) (both .pdb) back c found pdb x)
 
+  module _ (start t out : List ℕ) (k : Accepted (findFrom (store w calls) start t out)) where
+    under : (atoms : List Site) × (atomsFrom start after ≡ some atoms)
+    under = start-found after (store w calls) read start (atomsFrom start after) refl t out k
+
+    run : Listed tables (lowest start) (under .0) t (findFrom (store w calls) start t out)
+    run = find-listed after (store w calls) read start (under .0) (under .1) t out k
+
+    tree : Reads t
+    tree = reads t (run .nodes) (run .tree)
+
+    found : findAt start (searchOf t) (both .pdb) ≡ some (list (findFrom (store w calls) start t out))
+    found =
+        ap (findAt start (searchOf t)) (both .held)
+        ∙ find-hits t tree start after
+        ∙ ap (Option·map (hitsAmong tables (lowest start) t)) (under .1)
+        ∙ ap some (sym (run .hits))
+
   -- the second demand
   pub demand2 : Demand2 w calls
-  unfolding hitsIn
   demand2 =
       record {
         bools = both .bools;
@@ -175,9 +193,7 @@ module _ (w : List ℕ) (calls : List Call) (o : Accepted (openRun w)) where
         founds = ap (λ (l : List (List ℕ)). map foundBy (filter accepts l)) (demand3 w calls o .answered) ∙ both .founds;
         words = held ∙ ap (layOut (length w)) (sym back);
         texts = both .held ∙ ap pdbOf (sym back);
-        reads = λ t out k. let l = find-listed after (store w calls) read t out k in reads t (l .nodes) (l .tree);
-        hits = λ t out k.
-            let l = find-listed after (store w calls) read t out k in
-            l .hits ∙ sym (find-hits t (reads t (l .nodes) (l .tree)) after) ∙ ap (findIn (searchOf t)) (sym (both .held));
+        reads = tree;
+        hits = found;
         takes = takes;
       }

@@ -25,8 +25,8 @@ use Rattle.pdbtbx.specs.Structs.{Says}
 use Rattle.pdbtbx.specs.Words.{isize, saysOf, structOf, structsOf}
 use Rattle.pdbtbx.specs.Search.{Search}
 use Rattle.pdbtbx.specs.Matches.{optionalMatches, matchesAt}
-use Rattle.pdbtbx.specs.Find.{Item, find, countOf, item, items, findBelow}
-use Rattle.pdbtbx.specs.Demand.{value, Above}
+use Rattle.pdbtbx.specs.Find.{Item, find, countOf, item, items}
+use Rattle.pdbtbx.specs.Demand.{value}
 use Rattle.pdbtbx.proofs.Values.{value-same, listed, find-all}
 use Rattle.pdbtbx.proofs.Texts.{same-string, eqb-swap, same-option, before-string, among-amino-acids, among-backbone}
 
@@ -107,6 +107,10 @@ told-value e SideChain = simp none-then (side-then (e .conformer) (e .atom) _ _ 
 told-value e Hetero = simp none-then (known-then (e .atom) _ _ (λ a. refl))
 
 -- ---- a level more
+
+-- at a place that is above level k, the levels from k down aren't known
+abbrev pub Above : ℕ → Place → Type 0
+Above k e = window 1 (4 - k) e ≡ e
 
 -- what the levels above tell, then this one
 after-one : (a x : Option Bool) → orElse (orElse a none) x ≡ orElse a (orElse x none)
@@ -229,7 +233,7 @@ module _ (s : Search Term) where
   bridge zero l = bridge-atoms
   bridge (suc k) l = each k l (bridge k (omega arith))
 
-nowhere-above : (k : ℕ) → k ≤ 4 → Above k nowhere
+pub nowhere-above : (k : ℕ) → k ≤ 4 → Above k nowhere
 unfolding window
 nowhere-above zero l = refl
 nowhere-above (suc zero) l = refl
@@ -244,9 +248,6 @@ start p = record { numbers = p; place = nowhere }
 
 -- the crate's `find` at any of its levels: what it lists, after the numbers of the start, is document 01's value at the atoms below, with nothing of the start known
 pub found-below : (s : Search Term) (k : ℕ) → k ≤ 4 → (p : List ℕ) (n : ℕ) (ts : List (Branch k))
-    → map (λ (h : List ℕ). p ++ h) (findBelow k s n (structsOf k ts)) ≡ map numbersOf (filter (hit s) (concatMapFrom (size k) (atomsIn k (start p)) n ts))
-unfolding findBelow toldAt
-found-below s k l p n ts =
-    ap (λ (xs : List (Item Says k)). map (λ (h : List ℕ). p ++ h) (find Says matchesAt k s xs)) (items-same k n ts)
-    ∙ ap (map (λ (h : List ℕ). p ++ h)) (find-all Says matchesAt k s (branchItems k n ts))
-    ∙ bridge s k l (start p) (nowhere-above k l) n ts
+    → map (λ (h : List ℕ). p ++ h) (find Says matchesAt k s (branchItems k n ts)) ≡ map numbersOf (filter (hit s) (concatMapFrom (size k) (atomsIn k (start p)) n ts))
+unfolding toldAt
+found-below s k l p n ts = ap (map (λ (h : List ℕ). p ++ h)) (find-all Says matchesAt k s (branchItems k n ts)) ∙ bridge s k l (start p) (nowhere-above k l) n ts

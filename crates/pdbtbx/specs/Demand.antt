@@ -7,13 +7,13 @@ use mathlib.Core.List.{List, [], _∷_, _++_, map}
 use mathlib.Core.Option.{some}
 use lib.ListN.{length, getD}
 use lib.Dec.{leb}
-use Rattle.machine.specs.Lists.{keep, filter, sum, concatMapFrom, same}
+use Rattle.machine.specs.Lists.{keep, filter, sum, same}
 use Rattle.machine.specs.Answer.{ok, editedNumbers}
 use Rattle.machine.specs.Text.{trim}
-use Rattle.machine.specs.Store.{Branch, stored, capacity, layOut, openRun}
+use Rattle.machine.specs.Store.{stored, capacity, layOut, openRun}
 use Rattle.machine.specs.Kleene.{decided, notT, applyT}
-use Rattle.machine.specs.Query.{Place, window, readTree, treeValue, tables}
-use Rattle.machine.specs.Find.{Site, size, atomsIn, hitsAmong, findRun}
+use Rattle.machine.specs.Query.{readTree, treeValue}
+use Rattle.machine.specs.Find.{findFrom}
 use Rattle.machine.specs.Edit.{Addition, Call, AddModel, AddAtom, RemoveChain, RemoveResidue, RemoveConformer, RemoveAtom, RemoveChainById, RemoveResidueById, RemoveConformerById, RemoveAtomBySerialNumber, RemoveAtomsBy, RemoveEmpty, JoinModels, JoinChains, JoinResidues, JoinConformers, storeStep, storeAfter, storeAnswers}
 use Rattle.machine.specs.Demand.{accepts, Accepted, list}
 use Rattle.machine.specs.declared.Tri.{Tri}
@@ -24,9 +24,9 @@ use Rattle.machine.specs.declared.Edited.the-variants.{Done, Refused}
 use Rattle.machine.specs.declared.Refusal.the-variants.{NoCapacity}
 use Rattle.pdbtbx.specs.Std.{Text}
 use Rattle.pdbtbx.specs.Structs.{PDB, prepareIdentifierUppercase}
-use Rattle.pdbtbx.specs.Words.{structsOf, pdbOf, machineFrom}
+use Rattle.pdbtbx.specs.Words.{pdbOf, machineFrom}
 use Rattle.pdbtbx.specs.Search.{Search, Operator, Not, Single, Known}
-use Rattle.pdbtbx.specs.Find.{countOf, findBelow, findIn}
+use Rattle.pdbtbx.specs.Find.{countOf, findAt}
 use Rattle.pdbtbx.specs.Calls.{searchOf, edit, edits}
 
 -- ---- trees and searches
@@ -49,19 +49,6 @@ value v (Known b) = decided b
 pub record Reads (t : List ℕ) : Type 0 where
   pub nodes : readTree t ≡ ok (postfix (searchOf t))
   pub kleene : (v : Term → Tri) → treeValue v t ≡ value v (searchOf t)
-
--- ---- find, from every level
-
--- at a place that is above level k, the levels from k down aren't known
-abbrev pub Above : ℕ → Place → Type 0
-Above k e = window 1 (4 - k) e ≡ e
-
--- `PDB::find` (k is 4) and the `find` of a model (3), a chain, a residue and a conformer (0): z is the start's site, ts are its children, of which the first
--- has record number n. What the crate lists are the atoms below where the tree isn't false, the terms of the start's own level and above undecided
-abbrev pub FindsFrom : (t : List ℕ) (k : ℕ) (z : Site) (n : ℕ) (ts : List (Branch k)) → Type 0
-FindsFrom t k z n ts =
-    map (λ (h : List ℕ). z .numbers ++ h) (findBelow k (searchOf t) n (structsOf k ts))
-    ≡ hitsAmong tables (5 - k) t (concatMapFrom (size k) (atomsIn k z) n ts)
 
 -- ---- the domain
 
@@ -149,8 +136,9 @@ module _ (w : List ℕ) (calls : List Call) where
     -- the store's words are the crate's structure, packed and laid out; its texts are the texts of those words, so packing lost nothing
     pub words : store ≡ layOut (length w) (machineFrom pdb)
     pub texts : pdb ≡ pdbOf (machineFrom pdb)
-    -- an accepted run of find has a search of the crate's, and lists what the crate's `find` gives for it
-    pub reads : (t out : List ℕ) → Accepted (findRun store t out) → Reads t
-    pub hits : (t out : List ℕ) → Accepted (findRun store t out) → list (findRun store t out) ≡ findIn (searchOf t) pdb
+    -- an accepted run of find, from any start, has a search of the crate's, and lists what the crate's `find` gives for it at that start: `PDB::find`, or the
+    -- `find` of a model, a chain, a residue or a conformer
+    pub reads : (start t out : List ℕ) → Accepted (findFrom store start t out) → Reads t
+    pub hits : (start t out : List ℕ) → Accepted (findFrom store start t out) → findAt start (searchOf t) pdb ≡ some (list (findFrom store start t out))
     -- the other direction, for any call more: in the domain, what the crate takes the store takes, unless it has no room
     pub takes : (c : Call) → InDomain c → (found : Bool) (after : PDB) → edit c pdb ≡ some (found, after) → storeStep store c ≡ outcome (length w) store pdb found after

@@ -1,10 +1,11 @@
--- pdbtbx 0.12.0: `PDB::find`, `Model::find`, `Chain::find`, `Residue::find` and `Conformer::find`, one function by level. Assumes nothing.
+-- pdbtbx 0.12.0: `PDB::find`, `Model::find`, `Chain::find`, `Residue::find` and `Conformer::find`, one function by level, and all five at a position.
+-- Assumes nothing.
 -- Levels count from the atom, 0; `find k` goes over a list of things of level k, so it is the `find` of what stands one level above.
 use Prim.Native.Nat.{ℕ, zero, suc}
 use mathlib.Core.Bool.{Bool, true, false, not}
 use mathlib.Core.List.{List, [], _∷_, map}
-use mathlib.Core.Option.{Option}
-use Rattle.machine.specs.Lists.{filter, concatMap, concatMapFrom, sum}
+use mathlib.Core.Option.{Option, none, some, Option·map}
+use Rattle.machine.specs.Lists.{filter, nth, concatMap, concatMapFrom, sum, andThen}
 use Rattle.machine.specs.declared.Term.{Term}
 use Rattle.pdbtbx.specs.Std.{unwrapOr}
 use Rattle.pdbtbx.specs.Structs.{Says, Struct, PDB}
@@ -28,6 +29,14 @@ module _ (F : ℕ → Type 0) {T : Type 0} (matches : (k : ℕ) → F k → T �
       (filter (λ (p : Item F (suc k) × Search T). not (isKnown false (complete (p .1))))
       (map (λ (m : Item F (suc k)). (m, addInfo (matches (suc k) (m .1)) s)) items))
 
+  -- the `find` of what stands at a position: its indexes go into pdb.models().nth(..), model.chains().nth(..), chain.residues().nth(..) and
+  -- residue.conformers().nth(..), and none is a None of these. A hit of that `find` refers only to what stands below; the caller, who went down there, knows the
+  -- start and what is above it, and their numbers are put before the hit's
+  unfoldable pub findUnder : (k : ℕ) → List ℕ → Search T → List (Item F k) → Option (List (List ℕ))
+  findUnder k [] s items = some (find k s items)
+  findUnder zero (i ∷ is) s items = none
+  findUnder (suc k) (i ∷ is) s items = andThen (nth i items) (λ (m : Item F (suc k)). Option·map (map (λ (h : List ℕ). m .0 ∷ h)) (findUnder k is s (m .2)))
+
 -- ---- on the crate's structure: a hit's references are told by the numbers of what they point to, in hierarchy order from 0
 
 unfoldable pub countOf : (k : ℕ) → Struct k → ℕ
@@ -41,10 +50,6 @@ item (suc k) n t = (n, t .0, concatMapFrom (countOf k) (λ i u. item k i u ∷ [
 abbrev pub items : (k : ℕ) → ℕ → List (Struct k) → List (Item Says k)
 items k n ts = concatMapFrom (countOf k) (λ i t. item k i t ∷ []) n ts
 
--- the `find` of something whose children have level k, the first of them the number n
-unfoldable pub findBelow : (k : ℕ) → Search Term → ℕ → List (Struct k) → List (List ℕ)
-findBelow k s n ts = find Says matchesAt k s (items k n ts)
-
--- `PDB::find`
-abbrev pub findIn : Search Term → PDB → List (List ℕ)
-findIn s pdb = findBelow 4 s 0 pdb
+-- the five: `PDB::find` with no index, `Model::find` with one, and so on down to `Conformer::find` with four
+abbrev pub findAt : List ℕ → Search Term → PDB → Option (List (List ℕ))
+findAt start s pdb = findUnder Says matchesAt 4 start s (items 4 0 pdb)

@@ -8,6 +8,8 @@
 // - by level: the five structs, `add_.._info` and `find`, the removals, `remove_empty`, `remove_atoms_by` and the joins are one definition each, over a level
 //   that counts from the atom up; the crate has a copy for each level;
 // - by term: the arms of the five `optional_matches_..` stand in one table of 22 terms, each with its arm at each level; an arm that isn't named is `_ => None`;
+// - at a position: the way down by `models().nth(..)` and so on and the `find` there are one definition. A hit of the `find` of a model, a chain, a residue or a
+//   conformer doesn't refer to what was passed on the way; the caller does, so those numbers stand before the hit's;
 // - a loop with `break`, and the push that follows it, is an index and `onCurrent`.
 //
 // Assumed of std, for bytes below 128: specs/Std.antt, whose head names the definitions of `machine` that stand for `str::trim`, `<=` of `str`,

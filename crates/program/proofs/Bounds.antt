@@ -8,59 +8,50 @@ use native.Mathlib.Omega.{arith}
 use lib.ListN.{length, getD, take, drop, length-append, length-take, length-map}
 use lib.Dec.{leb, ltb, eqb}
 use borrow.Author.Tests.{leb-true, le-leb, ltb-true, ltb-false}
-use Rattle.machine.specs.Lists.{filter, concatMap, bytes}
+use Rattle.machine.specs.Lists.{concatMap, bytes}
 use Rattle.machine.specs.Answer.{Result, ok, refused, _>>=_, _>>_, need, refusalNumber, foundNumbers}
 use Rattle.machine.specs.Store.{Machine, records, goodLength, recordsOf, goodLayout, group, readStore}
-use Rattle.machine.specs.Kleene.{isHit}
 use Rattle.machine.specs.Query.{nodeOf, nodesOf, leavesOne, readTree, tables}
-use Rattle.machine.specs.Find.{Site, atomsOf, valueFrom, hitsIn, hitsOf, hitWords, written, findRun}
+use Rattle.machine.specs.Find.{top, atomsOf, atomsUnder, hitsAmong, hitsFrom, hitsOf, hitWords, written, findFrom, findRun}
 use Rattle.machine.specs.Program.{Input, wordsIn, split, readInput, digit, digits, decimal, newline, spaced, printed, programRun}
-use Rattle.machine.specs.Demand.{atomNumber}
 use Rattle.machine.specs.declared.Node.{Node}
 use Rattle.machine.specs.declared.Refusal.{Refusal}
 use Rattle.machine.specs.declared.Refusal.the-variants.{BadLength, BrokenLayout, TreeShape, BadFile, ShortOutput}
 use Rattle.machine.specs.declared.Found.the-variants.{Refused}
 use Rattle.laws.specs.Lists.{All, and-both}
-use Rattle.laws.specs.Counting.{Rises, keyed-filter}
-use Rattle.laws.specs.Numbers.{siteNumber, five-numbers, numbers-rise}
+use Rattle.laws.specs.Counting.{rises-few}
+use Rattle.laws.specs.Numbers.{siteNumber, branches-five, branches-rise, hits-few, hits-five}
 use Rattle.laws.specs.Layout.{read-fit}
 use Rattle.laws.specs.Steps.{refusal-digits}
 use Rattle.search.proofs.Nodes.{node-refused}
-use Rattle.demands.proofs.Queries.{fives-words, hits-five}
+use Rattle.demands.proofs.Queries.{fives-words}
 use Rattle.decimals.proofs.Laws.{digits-few}
 use Rattle.program.proofs.Parts.{wordsIn-length}
 use Rattle.program.specs.Text.{line, lines, lastLine, answerText}
 
 -- ---- the hits
 
-rises-length : (a b : ℕ) (xs : List ℕ) → Rises a b xs → a + length xs ≤ b
-rises-length a b [] h = omega arith
-rises-length a b (x ∷ xs) h = omega (arith, h .0, rises-length (suc x) b xs (h .1))
-
 -- at most one hit for each record
-hits-few : (t : List ℕ) (m : Machine) → length (hitsIn tables t m) ≤ length (records m)
-unfolding hitsIn
-hits-few t m =
-    let hit : Site → Bool = λ s. isHit (valueFrom tables 1 t s) in
-    let k = keyed-filter (λ (s : Site). s .numbers) atomNumber hit 0 (length (records m)) (atomsOf m) (numbers-rise m) in
-    let numbers : List ℕ = map siteNumber (filter hit (atomsOf m)) in
-    simp length-map (omega (arith, rises-length 0 (length (records m)) numbers k, length-map (filter hit (atomsOf m)) siteNumber))
+few-hits : (t : List ℕ) (m : Machine) → length (hitsAmong tables 1 t (atomsOf m)) ≤ length (records m)
+unfolding atomsOf
+few-hits t m =
+    omega (arith, hits-few tables 1 t (atomsOf m), length-map (atomsOf m) siteNumber, rises-few 0 (0 + length (records m)) (map siteNumber (atomsOf m)) (branches-rise 4 top refl 0 m))
 
 -- hits are those of the machine that the store holds
 pub record HitsOf (w t : List ℕ) (hs : List (List ℕ)) : Type 0 where
   pub machine : Machine
   pub read : readStore w ≡ ok machine
-  pub are : hs ≡ hitsIn tables t machine
+  pub are : hs ≡ hitsAmong tables 1 t (atomsOf machine)
 
 pub hits-of : (w t : List ℕ) (hs : List (List ℕ)) → hitsOf w t ≡ ok hs → HitsOf w t hs
-unfolding hitsOf
+unfolding hitsFrom atomsUnder atomsOf
 hits-of w t hs h = by-store (readStore w) refl h
   where
-    by-tree : (m : Machine) → readStore w ≡ ok m → (x : Result (List Node)) → (x >> ok (hitsIn tables t m)) ≡ ok hs → HitsOf w t hs
+    by-tree : (m : Machine) → readStore w ≡ ok m → (x : Result (List Node)) → (x >> ok (hitsAmong tables 1 t (atomsOf m))) ≡ ok hs → HitsOf w t hs
     by-tree m e (ok ns) h = record { machine = m; read = e; are = cc }
     by-tree m e (refused r) h = let z : _≡_ {A = ℕ} 0 1 = cc in absurd (omega arith)
 
-    by-store : (x : Result Machine) → readStore w ≡ x → (x >>= (λ m. readTree t >> ok (hitsIn tables t m))) ≡ ok hs → HitsOf w t hs
+    by-store : (x : Result Machine) → readStore w ≡ x → (x >>= (λ m. readTree t >> ok (hitsAmong tables 1 t (atomsOf m)))) ≡ ok hs → HitsOf w t hs
     by-store (ok m) e h = by-tree m e (readTree t) h
     by-store (refused r) e h = let z : _≡_ {A = ℕ} 0 1 = cc in absurd (omega arith)
 
@@ -68,11 +59,11 @@ hits-of w t hs h = by-store (readStore w) refl h
 pub hits-682 : (w t : List ℕ) (hs : List (List ℕ)) → length w ≤ 8191 → hitsOf w t ≡ ok hs → length hs ≤ 682
 hits-682 w t hs l h =
     let p = hits-of w t hs h in
-    omega (arith, ap length (p .are), hits-few t (p .machine), read-fit w (p .machine) (p .read) .room)
+    omega (arith, ap length (p .are), few-hits t (p .machine), read-fit w (p .machine) (p .read) .room)
 
 hits-are-five : (w t : List ℕ) (hs : List (List ℕ)) → hitsOf w t ≡ ok hs → All (λ h. length h ≡ 5) hs
-unfolding hitsIn
-hits-are-five w t hs h = let p = hits-of w t hs h in rw (p .are) (hits-five tables 1 (atomsOf (p .machine)) (five-numbers (p .machine)) t)
+unfolding atomsOf
+hits-are-five w t hs h = let p = hits-of w t hs h in rw (p .are) (hits-five tables 1 t (atomsOf (p .machine)) (branches-five 4 top refl 0 (p .machine)))
 
 -- ---- find isn't refused with 10
 
@@ -149,9 +140,9 @@ tree-other t =
     (concatMap-other (nodesOf t) _ (nodes-other t) (λ ns. need-other (leavesOne ns) TreeShape _ (λ n. omega arith) (ok-other ns)))
 
 hits-other : (w t : List ℕ) → Other (hitsOf w t)
-unfolding hitsOf
+unfolding hitsFrom atomsUnder
 hits-other w t =
-    concatMap-other (readStore w) _ (store-other w) (λ m. then-other (readTree t) _ (tree-other t) (ok-other (hitsIn tables t m)))
+    concatMap-other (readStore w) _ (store-other w) (λ m. then-other (readTree t) _ (tree-other t) (ok-other _))
 
 input-other : (bs : List ℕ) → Other (readInput bs)
 unfolding readInput
@@ -163,7 +154,7 @@ input-other bs =
 -- the store of an input has 682 records at most, so that 3,410 words are enough for its hits, and find doesn't refuse with 10
 pub find-has-room : (bs : List ℕ) (i : Input) → readInput bs ≡ ok i → (out : List ℕ) → 3410 ≤ length out
     → findRun (i .store) (i .tree) out .0 ≡ foundNumbers (Refused ShortOutput) → ⊥
-unfolding findRun
+unfolding findFrom
 find-has-room bs i e out l h = go (hitsOf (i .store) (i .tree)) refl h
   where
     go : (x : Result (List (List ℕ))) → hitsOf (i .store) (i .tree) ≡ x → written out x .0 ≡ foundNumbers (Refused ShortOutput) → ⊥

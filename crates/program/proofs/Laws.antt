@@ -12,7 +12,7 @@ use lib.Dec.{leb, eqb}
 use borrow.Author.Tests.{le-leb, lt-leb, eqb-true, leb-true}
 use Rattle.machine.specs.Lists.{bytes}
 use Rattle.machine.specs.Answer.{Result, ok, refused, refusalNumber, foundNumbers}
-use Rattle.machine.specs.Find.{hitsOf, hitWords, written, findRun}
+use Rattle.machine.specs.Find.{hitsOf, hitWords, written, findFrom, findRun}
 use Rattle.machine.specs.Program.{littleEndian, wordsIn, split, readInput, decimal, printed, programRun}
 use Rattle.machine.specs.declared.Refusal.{Refusal}
 use Rattle.machine.specs.declared.Refusal.the-variants.{BadFile}
@@ -185,7 +185,7 @@ module _ (w t out₀ out : List ℕ) (short : length w ≤ 8191) (room : 3410 �
 
   module _ (n : ℕ) (is : r ≡ Found.the-variants.Hits n) where
     hit : Hit w t out₀ out n
-    unfolding findRun
+    unfolding findFrom
     hit = go (hitsOf w t) refl e
       where
         go : (x : Result (List (List ℕ))) → hitsOf w t ≡ x → (foundNumbers r, out) ≡ written out₀ x → Hit w t out₀ out n
@@ -208,7 +208,7 @@ module _ (w t out₀ out : List ℕ) (short : length w ≤ 8191) (room : 3410 �
         f ∙ ap (λ (b : List ℕ). putAt b 0 s) p
 
   pub refused-answer : (c : Refusal) → r ≡ Found.the-variants.Refused c → (a : ℕ) (s s₁ : List ℕ) → (a, s₁) ≡ putAt (printed (refused c)) 0 s → (a, s₁) ≡ putAt (printed (hitsOf w t)) 0 s
-  unfolding findRun printed
+  unfolding findFrom printed
   refused-answer c is a s s₁ f = f ∙ ap (λ (b : List ℕ). putAt b 0 s) (go (hitsOf w t) refl e)
     where
       go : (x : Result (List (List ℕ))) → hitsOf w t ≡ x → (foundNumbers r, out) ≡ written out₀ x → printed (refused c) ≡ printed x

@@ -110,7 +110,7 @@ fn put_answer(store: &[u64], tree: &[u64], text: &mut [u8]) -> usize
     ensures { λ r. ⌜ (r, now (text .exit)) ≡ putAt (printed (hitsOf (now (store .entry)) (now (tree .entry)))) 0 (now (text .entry)) ⌝ }
 {
     let mut hits = [0u64; 3410];
-    let found = walk::find(store, tree, &mut hits);
+    let found = walk::find(store, &[], tree, &mut hits);
     match found {
         Found::Hits(n) => put_found(text, &hits, n as usize),
         Found::Refused(r) => put_refused(text, r),

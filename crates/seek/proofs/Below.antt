@@ -7,20 +7,20 @@ use mathlib.Core.Option.{Option, none, some, Option·map}
 use native.Mathlib.Nat.{add-zero, zero-add, add-suc, suc-add}
 use native.Mathlib.Numerals.{add-one}
 use native.Mathlib.Omega.{arith}
-use lib.ListN.{length, take, drop, getD, length-drop, drop-of-length-le}
+use lib.ListN.{length, take, drop, getD, set, length-drop, drop-of-length-le}
 use lib.Seq.{drop-cons, drop-drop, getD-take, getD-drop}
 use lib.Dec.{ltb, eqb}
 use borrow.Author.Tests.{le-ltb, lt-ltb, eq-eqb, ne-eqb}
 use Rattle.machine.specs.Lists.{concatMap, nth, andThen}
 use Rattle.machine.specs.Record.{Words, words, kind}
 use Rattle.machine.specs.Store.{Branch, Machine, flat, records, chunks}
-use Rattle.machine.specs.Find.{size}
-use Rattle.machine.specs.Lookup.{numbered}
+use Rattle.machine.specs.Find.{size, numbered}
 use Rattle.machine.specs.Edit.{up, root}
 use Rattle.laws.specs.Lists.{All}
 use Rattle.laws.specs.Grouped.{words-kind, flats-kinds, chunks-length}
 use Rattle.laws.specs.Scan.{Ends, ends-more, ends-flats}
-use Rattle.seek.specs.Seek.{Within, recordAt, recordsIn, descendants, child, atChild, toEnd, childSpan, spanAt, span}
+use Rattle.seek.specs.Seek.{Within, recordAt, recordsIn, fiveNumbers, descendants, child, atChild, toEnd, childSpan, partIn, spanAt, span}
+use Rattle.seek.specs.declared.Part.{Part}
 
 -- ---- records among the words
 
@@ -222,3 +222,19 @@ span-machine (i ∷ (c ∷ (r ∷ []))) m lo hi = rw append-nil at (span-among 2
 span-machine (i ∷ (c ∷ (r ∷ (f ∷ [])))) m lo hi = rw append-nil at (span-among 3 1 0 (i ∷ (c ∷ (r ∷ (f ∷ [])))) 0 m [] refl refl tt)
 span-machine (i ∷ (c ∷ (r ∷ (f ∷ (a ∷ []))))) m lo hi = rw append-nil at (span-among 4 0 0 (i ∷ (c ∷ (r ∷ (f ∷ (a ∷ []))))) 0 m [] refl refl tt)
 span-machine (i ∷ (c ∷ (r ∷ (f ∷ (a ∷ (x ∷ is)))))) m lo hi = absurd (omega arith)
+
+-- the records below a position, over branches of level k that stand below g records
+unfoldable pub partAt : (k g : ℕ) → List ℕ → ℕ → List ℕ → List (Branch k) → Option Part
+partAt k g path n [] ts = some (record { from = n; end = n + length (concatMap (flat k) ts); depth = g; path = fiveNumbers path })
+partAt zero g path n (i ∷ is) ts = none
+partAt (suc k) g path n (i ∷ is) ts = andThen (nth i (numbered (suc k) n ts)) (λ t. partAt k (suc g) (set path g (t .0)) (suc (t .0)) is (t .1 .1))
+
+pub part-among : (k g : ℕ) → g + k ≡ 4 → (path : List ℕ) (n : ℕ) (is : List ℕ) → length is ≤ k → (ts : List (Branch k)) (rest : List Words) → Ends g rest
+    → partIn g path is n (concatMap (flat k) ts ++ rest) ≡ partAt k g path n is ts
+unfolding partIn partAt
+part-among k g level path n [] few ts rest e = rw (descendants-over g (concatMap (flat k) ts) rest (flats-kinds g k (omega arith) ts) e)
+part-among zero g level path n (i ∷ is) few ts rest e = absurd (omega arith)
+part-among (suc k) g level path n (i ∷ is) few ts rest e =
+    child-branch g (suc k) level (λ m after. partIn (suc g) (set path g m) is (suc m) after) (λ t. partAt k (suc g) (set path g (t .0)) (suc (t .0)) is (t .1 .1))
+    (λ m t after a. part-among k (suc g) (omega arith) (set path g m) (suc m) is (omega arith) (t .1) after a)
+    i n ts rest e

@@ -4,7 +4,7 @@ use mathlib.Core.Path.{_≡_, refl, sym, ap, _∙_}
 use mathlib.Core.Bool.{false}
 use mathlib.Core.List.{List, [], _∷_, _++_, append-assoc}
 use mathlib.Core.Option.{Option, none, some}
-use native.Mathlib.Nat.{add-zero, zero-add, add-assoc}
+use native.Mathlib.Nat.{zero-add}
 use native.Mathlib.Omega.{arith}
 use lib.ListN.{length, length-append}
 use lib.Seq.{take-at, drop-at}
@@ -14,13 +14,13 @@ use Rattle.machine.specs.Lists.{concatMap, nth, andThen}
 use Rattle.machine.specs.Answer.{ok}
 use Rattle.machine.specs.Record.{Words, words, kind}
 use Rattle.machine.specs.Store.{Branch, Machine, flat, records, atomCount, stored, end, group, readStore}
-use Rattle.machine.specs.Find.{size}
-use Rattle.machine.specs.Lookup.{numbered}
+use Rattle.machine.specs.Find.{size, numbered}
 use Rattle.machine.specs.Edit.{up, branchAt, replaceAt}
 use Rattle.laws.specs.Lists.{and-then, concatMap-append, sum-concatMap}
 use Rattle.laws.specs.Grouped.{words-kind, group-flats, chunks-length}
 use Rattle.laws.specs.Layout.{records-read, read-parts}
-use Rattle.laws.specs.Places.{Around, Spot}
+use Rattle.laws.specs.Numbers.{nth-numbered, no-numbered}
+use Rattle.laws.specs.Places.{around, Spot}
 use Rattle.seek.specs.Seek.{held, Good, Within, recordsIn, isAtom, atomRecords, spanAt, span, spanOf}
 use Rattle.seek.proofs.Below.{chunks-take, flat-root}
 use Rattle.seek.specs.declared.Span as Span
@@ -39,31 +39,6 @@ module _ (w : List ℕ) (m : Machine) (h : readStore w ≡ ok m) where
   records-count = ap length (records-read w m h) ∙ chunks-length (end w / 12) w
 
 -- ---- the branch at a position
-
--- the i-th branch, with the number of its first record
-record Numbered (k i n : ℕ) (ts : List (Branch k)) (t : Branch k) : Type 0 where
-  around : Around i ts t
-  number : nth i (numbered k n ts) ≡ some (n + length (concatMap (flat k) (around .before)), t)
-
-nth-numbered : (k i n : ℕ) (ts : List (Branch k)) (t : Branch k) → nth i ts ≡ some t → Numbered k i n ts t
-unfolding numbered
-nth-numbered k i n [] t e = let z : _≡_ {A = ℕ} 0 1 = cc in absurd (omega arith)
-nth-numbered k zero n (u ∷ ts) t e =
-    let q : u ≡ t = cc in
-    record { around = record { before = []; after = ts; was = rw q; is = λ f. rw q }; number = rw (add-zero, q) }
-nth-numbered k (suc i) n (u ∷ ts) t e =
-    let r = nth-numbered k i (n + size k u) ts t e in
-    let a = r .around in
-    record {
-      around = record { before = u ∷ a .before; after = a .after; was = ap (λ (l : List (Branch k)). u ∷ l) (a .was); is = λ f. ap (λ (l : List (Branch k)). u ∷ l) (a .is f) };
-      number = r .number ∙ rw (length-append (flat k u), add-assoc);
-    }
-
-no-numbered : (k i n : ℕ) (ts : List (Branch k)) → nth i ts ≡ none → nth i (numbered k n ts) ≡ none
-unfolding numbered
-no-numbered k i n [] e = refl
-no-numbered k zero n (t ∷ ts) e = let z : _≡_ {A = ℕ} 0 1 = cc in absurd (omega arith)
-no-numbered k (suc i) n (t ∷ ts) e = no-numbered k i (n + size k t) ts e
 
 -- how many records there are, with those of the branch at a position
 pub spot-length : (d j : ℕ) (pos : List ℕ) (ts : List (Branch (up d j))) (t : Branch j) (s : Spot d j pos ts t)
@@ -109,8 +84,7 @@ pub span-some : (d j : ℕ) (pos : List ℕ) (n : ℕ) (ts : List (Branch (up d 
 unfolding branchAt replaceAt spanAt flat
 span-some d j [] n ts t e = let z : _≡_ {A = ℕ} 0 1 = cc in absurd (omega arith)
 span-some zero j (i ∷ is) n ts t e =
-    let r = nth-numbered j i n ts t e in
-    let a = r .around in
+    let a = around i ts t e in
     record {
       spot = record {
         pre = concatMap (flat j) (a .before);
@@ -118,14 +92,13 @@ span-some zero j (i ∷ is) n ts t e =
         was = ap (concatMap (flat j)) (a .was) ∙ concatMap-append (flat j) (a .before) (t ∷ a .after);
         is = λ new. ap (concatMap (flat j)) (a .is (λ u. new)) ∙ simp concatMap-append;
       };
-      span = rw (r .number);
+      span = rw (nth-numbered j i n ts t e);
     }
 span-some (suc d) j (i ∷ is) n ts t e =
     let k = suc (up d j) in
     let s = and-then (nth i ts) (λ u. branchAt d j is (u .1)) t e in
     let u = s .0 in
-    let r = nth-numbered k i n ts u (s .1) in
-    let a = r .around in
+    let a = around i ts u (s .1) in
     let lead = concatMap (flat k) (a .before) in
     let below = span-some d j is (suc (n + length lead)) (u .1) t (s .2) in
     let b = below .spot in
@@ -137,7 +110,7 @@ span-some (suc d) j (i ∷ is) n ts t e =
         was = flats-below (up d j) (a .before) (a .after) u ts (b .pre) (flat j t) (b .post) (a .was) (b .was);
         is = λ new. flats-below (up d j) (a .before) (a .after) (u .0, replaceAt d j is new (u .1)) _ (b .pre) (concatMap (flat j) new) (b .post) (a .is (λ v. (v .0, replaceAt d j is new (v .1)) ∷ [])) (b .is new);
       };
-      span = span-down d j i is n ts _ _ _ (size j t) (r .number) (below .span) p;
+      span = span-down d j i is n ts _ _ _ (size j t) (nth-numbered k i n ts u (s .1)) (below .span) p;
     }
 
 -- "5 no such position" is where there is no span
@@ -151,7 +124,7 @@ span-none (suc d) j (i ∷ is) n ts e = go (λ m us. span-none d j is m us) (nth
         → (o : Option (Branch (suc (up d j)))) → nth i ts ≡ o → andThen o (λ t. branchAt d j is (t .1)) ≡ none
         → andThen (nth i (numbered (suc (up d j)) n ts)) (λ t. spanAt d j is (suc (t .0)) (t .1 .1)) ≡ none
     go below none q p = rw (no-numbered (suc (up d j)) i n ts q)
-    go below (some t) q p = let r = nth-numbered (suc (up d j)) i n ts t q in rw (r .number) (below _ (t .1) p)
+    go below (some t) q p = rw (nth-numbered (suc (up d j)) i n ts t q) (below _ (t .1) p)
 
 -- what the answers tell
 module _ (d j : ℕ) (pos : List ℕ) (n : ℕ) (ts : List (Branch (up d j))) where

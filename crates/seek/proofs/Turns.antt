@@ -1,23 +1,28 @@
 -- What each loop keeps, and what it gives where it is left. Assumes nothing.
 use Prim.Native.Nat.{ℕ, suc, _+_, _-_, _*_, _/_, _≤_, _<_}
 use mathlib.Core.Path.{_≡_, refl, sym, ap, _∙_}
-use mathlib.Core.List.{List, _∷_}
-use mathlib.Core.Option.{Option, none, some}
+use mathlib.Core.List.{List, [], _∷_, append-nil}
+use mathlib.Core.Option.{Option, none, some, Option·map}
 use native.Mathlib.Nat.{add-zero, zero-add}
 use native.Mathlib.Numerals.{add-one}
 use native.Mathlib.Omega.{arith}
-use lib.ListN.{length, drop, getD, drop-of-length-le}
+use lib.ListN.{length, drop, getD, set, replicate, length-set, drop-of-length-le}
 use lib.Seq.{drop-cons, drop-drop}
 use borrow.Author.Tests.{le-ltb, lt-ltb, eq-eqb, ne-eqb}
 use Rattle.machine.specs.Lists.{andThen}
 use Rattle.machine.specs.Record.{Words}
 use Rattle.machine.specs.Store.{records, chunks}
+use Rattle.machine.specs.declared.RecordNumbers.{RecordNumbers}
+use Rattle.laws.specs.Lists.{and-then}
+use Rattle.laws.specs.Grouped.{flats-kinds}
 use Rattle.laws.specs.Layout.{records-read, read-parts, read-length, length-parts}
-use Rattle.seek.specs.Seek.{Good, Within, held, recordAt, recordsIn, descendants, child, atChild, childStart, toEnd, childSpan, atomRecords, span, startOf, spanOf}
-use Rattle.seek.proofs.Below.{recordsIn-cons, record-kind, recordsIn-nil, child-pass, child-next, child-here, child-low, child-nil, child-below, spanIn, span-machine}
+use Rattle.seek.specs.Seek.{Good, Within, held, recordAt, recordsIn, descendants, child, atChild, childStart, toEnd, childSpan, partIn, partOf, atomRecords, span, startOf, spanOf, followedOf, fiveNumbers}
+use Rattle.seek.proofs.Below.{recordsIn-cons, record-kind, recordsIn-nil, child-pass, child-next, child-here, child-low, child-nil, child-below, descendants-over, spanIn, span-machine}
 use Rattle.seek.proofs.Laws.{records-count}
 use Rattle.seek.specs.declared.Span as Span
 use Rattle.seek.specs.declared.Start as Start
+use Rattle.seek.specs.declared.Part.{Part}
+use Rattle.seek.specs.declared.Followed as Followed
 
 -- ---- end_of
 
@@ -142,68 +147,126 @@ module _ (w : List ℕ) (g : Good w) where
   pub count-is : getD w (length w - 1) 0 / 12 ≡ length (records (held w))
   count-is = sym (records-count w (held w) g)
 
--- ---- locate
+-- ---- follow
 
-pub record Located (w pos : List ℕ) (count level at : ℕ) : Type 0 where
+pub record Following (w pos : List ℕ) (count level at : ℕ) (path : List ℕ) : Type 0 where
   pub room : count * 12 ≤ length w
   pub high : at ≤ count
   pub deep : level ≤ length pos
-  pub low : level ≤ at
-  pub same : span pos (held w) ≡ spanIn level (drop level pos) at (recordsIn at count w)
+  pub five : length path ≡ 5
+  pub same : partOf pos (held w) ≡ partIn level path (drop level pos) at (recordsIn at count w)
 
-pub locate-begin : (w pos : List ℕ) (count : ℕ) → Good w → 1 ≤ length pos → length pos ≤ 5 → count ≡ length (records (held w)) → Located w pos count 0 0
-locate-begin w pos count g lo hi e =
-    let q = e ∙ records-count w (held w) g in
-    let p = read-parts w (held w) g .low in
-    let r : records (held w) ≡ chunks count w = records-read w (held w) g ∙ ap (λ (n : ℕ). chunks n w) (sym q) in
-    record {
-      room = omega arith;
-      high = omega arith;
-      deep = omega arith;
-      low = omega arith;
-      same = sym (span-machine pos (held w) lo hi) ∙ ap (spanIn 0 pos 0) r;
-    }
+module _ (w pos : List ℕ) (count : ℕ) (g : Good w) (all : count ≡ length (records (held w))) where
+  pub follow-begin : Following w pos count 0 0 (replicate {A = ℕ} 5 0)
+  follow-begin =
+      let q = all ∙ records-count w (held w) g in
+      let p = read-parts w (held w) g .low in
+      let r : records (held w) ≡ chunks count w = records-read w (held w) g ∙ ap (λ (n : ℕ). chunks n w) (sym q) in
+      record { room = omega arith; high = omega arith; deep = omega arith; five = refl; same = ap (partIn 0 (replicate {A = ℕ} 5 0) pos 0) r }
+
+  -- with no index, all records are below
+  pub follow-whole : length pos ≡ 0 → (path : RecordNumbers) → path ≡ fiveNumbers (replicate {A = ℕ} 5 0)
+      → Followed.the-variants.To (record { from = 0; end = count; depth = 0; path = path }) ≡ followedOf (partOf pos (held w))
+  unfolding partIn
+  follow-whole e path f =
+      let d : 0 + descendants 0 (records (held w)) ≡ count = zero-add _ ∙ rw append-nil at (descendants-over 0 (records (held w)) [] (flats-kinds 0 4 (omega arith) (held w)) tt) ∙ sym all in
+      let z : length pos ≤ 0 = omega arith in
+      let n : pos ≡ [] = drop-of-length-le pos z in
+      rw (n, f, d)
 
 -- the way on from a record at the index of a level
-abbrev onward : ℕ → List ℕ → ℕ → List Words → Option (ℕ × ℕ)
-onward level pos m after = spanIn (level + 1) (drop (level + 1) pos) (suc m) after
+abbrev onward : ℕ → List ℕ → List ℕ → ℕ → List Words → Option Part
+onward level path pos m after = partIn (level + 1) (set path level m) (drop (level + 1) pos) (suc m) after
 
-module _ (w pos : List ℕ) (count level at : ℕ) (s : Located w pos count level at) where
-  pub located-within : Within at count w
-  located-within = record { order = s .high; room = s .room }
+module _ (w pos : List ℕ) (count level at : ℕ) (path : List ℕ) (s : Following w pos count level at path) where
+  pub following-within : Within at count w
+  following-within = record { order = s .high; room = s .room }
 
   -- one index more
-  one-index : level < length pos → span pos (held w) ≡ atChild (level + 1) (getD pos level 0) (onward level pos) at (recordsIn at count w)
-  unfolding spanIn
+  one-index : level < length pos → partOf pos (held w) ≡ atChild (level + 1) (getD pos level 0) (onward level path pos) at (recordsIn at count w)
+  unfolding partIn
   one-index l = s .same ∙ rw (drop-cons pos level 0 l, add-one)
 
-  pub located-below : (r : Start.Start) (number : ℕ) → r ≡ startOf (childStart (level + 1) (getD pos level 0) at (recordsIn at count w)) → r ≡ Start.the-variants.At number
+  pub following-below : (r : Start.Start) (number : ℕ) → r ≡ startOf (childStart (level + 1) (getD pos level 0) at (recordsIn at count w)) → r ≡ Start.the-variants.At number
       → Met (level + 1) (getD pos level 0) at count w number
-  located-below r number e q = met w (level + 1) (getD pos level 0) at count r number located-within e q
+  following-below r number e q = met w (level + 1) (getD pos level 0) at count r number following-within e q
 
-  pub located-on : (r : Start.Start) (number : ℕ) → level < length pos → r ≡ startOf (childStart (level + 1) (getD pos level 0) at (recordsIn at count w)) → r ≡ Start.the-variants.At number
-      → Located w pos count (level + 1) (number + 1)
-  located-on r number l e q =
-      let m = located-below r number e q in
+  pub following-on : (r : Start.Start) (number : ℕ) → level < length pos → r ≡ startOf (childStart (level + 1) (getD pos level 0) at (recordsIn at count w)) → r ≡ Start.the-variants.At number
+      → Following w pos count (level + 1) (number + 1) (set path level number)
+  following-on r number l e q =
+      let m = following-below r number e q in
       let b = m .below in
-      let n = m .number in
-      let o = s .low in
       record {
         room = s .room;
         high = omega arith;
         deep = omega arith;
-        low = omega arith;
-        same = one-index l ∙ met-is w (level + 1) (getD pos level 0) at count (onward level pos) number m ∙ ap (λ (x : ℕ). spanIn (level + 1) (drop (level + 1) pos) x (recordsIn (number + 1) count w)) (sym (add-one number));
+        five = length-set path level number ∙ s .five;
+        same = one-index l ∙ met-is w (level + 1) (getD pos level 0) at count (onward level path pos) number m ∙ ap (λ (x : ℕ). partIn (level + 1) (set path level number) (drop (level + 1) pos) x (recordsIn (number + 1) count w)) (sym (add-one number));
       }
 
-  pub located-missing : (r : Start.Start) → level < length pos → r ≡ startOf (childStart (level + 1) (getD pos level 0) at (recordsIn at count w)) → r ≡ Start.the-variants.Missing
-      → Span.the-variants.Missing ≡ spanOf (span pos (held w))
-  located-missing r l e m =
-      sym (ap spanOf (one-index l ∙ unmet w (level + 1) (getD pos level 0) at count (onward level pos) (sym e ∙ m)))
+  pub following-missing : (r : Start.Start) → level < length pos → r ≡ startOf (childStart (level + 1) (getD pos level 0) at (recordsIn at count w)) → r ≡ Start.the-variants.Missing
+      → Followed.the-variants.Missing ≡ followedOf (partOf pos (held w))
+  following-missing r l e m =
+      sym (ap followedOf (one-index l ∙ unmet w (level + 1) (getD pos level 0) at count (onward level path pos) (sym e ∙ m)))
 
-  pub located-end : (stop : ℕ) → length pos ≤ level → stop ≡ at + descendants level (recordsIn at count w) → Span.the-variants.At (at - 1) stop ≡ spanOf (span pos (held w))
-  unfolding spanIn
-  located-end stop l e = rw (s .same, drop-of-length-le pos l, e)
+  pub following-end : (stop : ℕ) (numbers : RecordNumbers) → length pos ≤ level → stop ≡ at + descendants level (recordsIn at count w) → numbers ≡ fiveNumbers path
+      → Followed.the-variants.To (record { from = at; end = stop; depth = level; path = numbers }) ≡ followedOf (partOf pos (held w))
+  unfolding partIn
+  following-end stop numbers l e f = rw (s .same, drop-of-length-le pos l, e, f)
+
+-- ---- locate
+
+abbrev around : Part → ℕ × ℕ
+around p = (p .from - 1, p .end)
+
+span-part : (g : ℕ) (path pos : List ℕ) (n : ℕ) (rs : List Words) → spanIn g pos n rs ≡ Option·map around (partIn g path pos n rs)
+unfolding spanIn partIn
+span-part g path [] n rs = refl
+span-part g path (i ∷ is) n rs = go (λ m after. span-part (suc g) (set path g m) is (suc m) after) (child (suc g) i rs)
+  where
+    go : ((m : ℕ) (after : List Words) → spanIn (suc g) is (suc m) after ≡ Option·map around (partIn (suc g) (set path g m) is (suc m) after)) → (c : Option ℕ)
+        → andThen c (λ o. spanIn (suc g) is (suc (n + o)) (drop (suc o) rs)) ≡ Option·map around (andThen c (λ o. partIn (suc g) (set path g (n + o)) is (suc (n + o)) (drop (suc o) rs)))
+    go below none = refl
+    go below (some o) = below (n + o) (drop (suc o) rs)
+
+-- each index leads past a record, and a level down
+pub record Led (g : ℕ) (pos : List ℕ) (n : ℕ) (p : Part) : Type 0 where
+  pub past : n + length pos ≤ p .from
+  pub depth : p .depth ≡ g + length pos
+
+pub part-led : (g : ℕ) (path pos : List ℕ) (n : ℕ) (rs : List Words) (p : Part) → partIn g path pos n rs ≡ some p → Led g pos n p
+unfolding partIn
+part-led g path [] n rs p e =
+    let f : n ≡ p .from = cc in
+    let d : g ≡ p .depth = cc in
+    record { past = omega arith; depth = omega arith }
+part-led g path (i ∷ is) n rs p e =
+    let v = and-then (child (suc g) i rs) (λ o. partIn (suc g) (set path g (n + o)) is (suc (n + o)) (drop (suc o) rs)) p e in
+    let l = part-led (suc g) (set path g (n + v .0)) is (suc (n + v .0)) (drop (suc (v .0)) rs) p (v .2) in
+    record { past = omega (arith, l .past); depth = omega (arith, l .depth) }
+
+-- an answer tells its part
+pub at-part : (o : Option Part) (p : Part) → followedOf o ≡ Followed.the-variants.To p → o ≡ some p
+at-part none p e = let z : _≡_ {A = ℕ} 0 1 = cc in absurd (omega arith)
+at-part (some q) p e = cc
+
+pub no-part : (o : Option Part) → followedOf o ≡ Followed.the-variants.Missing → o ≡ none
+no-part none e = refl
+no-part (some q) e = let z : _≡_ {A = ℕ} 0 1 = cc in absurd (omega arith)
+
+module _ (w pos : List ℕ) (lo : 1 ≤ length pos) (hi : length pos ≤ 5) (r : Followed.Followed) (e : r ≡ followedOf (partOf pos (held w))) where
+  is-span : span pos (held w) ≡ Option·map around (partOf pos (held w))
+  is-span = sym (span-machine pos (held w) lo hi) ∙ span-part 0 (replicate {A = ℕ} 5 0) pos 0 (records (held w))
+
+  pub locate-missing : r ≡ Followed.the-variants.Missing → Span.the-variants.Missing ≡ spanOf (span pos (held w))
+  locate-missing f = sym (ap spanOf (is-span ∙ ap (Option·map around) (no-part (partOf pos (held w)) (sym e ∙ f))))
+
+  module _ (p : Part) (f : r ≡ Followed.the-variants.To p) where
+    pub locate-low : 1 ≤ p .from
+    locate-low = omega (arith, part-led 0 (replicate {A = ℕ} 5 0) pos 0 (records (held w)) p (at-part (partOf pos (held w)) p (sym e ∙ f)) .past)
+
+    pub locate-is : Span.the-variants.At (p .from - 1) (p .end) ≡ spanOf (span pos (held w))
+    locate-is = sym (ap spanOf (is-span ∙ ap (Option·map around) (at-part (partOf pos (held w)) p (sym e ∙ f))))
 
 -- ---- atoms_in
 

@@ -4,17 +4,19 @@ use mathlib.Core.Path.{_≡_}
 use mathlib.Core.Bool.{cond}
 use mathlib.Core.List.{List, [], _∷_}
 use mathlib.Core.Option.{Option, none, some, Option·map}
-use lib.ListN.{length, take, drop}
+use lib.ListN.{length, take, drop, getD, set, replicate}
 use lib.Dec.{ltb, eqb}
 use Rattle.machine.specs.Lists.{sum, nth, andThen}
 use Rattle.machine.specs.Answer.{ok}
 use Rattle.machine.specs.Record.{Words, kind}
-use Rattle.machine.specs.Store.{Branch, Machine, chunks, recordsOf, group, readStore}
-use Rattle.machine.specs.Find.{size}
-use Rattle.machine.specs.Lookup.{numbered}
+use Rattle.machine.specs.Store.{Branch, Machine, records, chunks, recordsOf, group, readStore}
+use Rattle.machine.specs.Find.{size, numbered}
 use Rattle.machine.specs.Edit.{up}
+use Rattle.machine.specs.declared.RecordNumbers.{RecordNumbers}
 use Rattle.seek.specs.declared.Span as Span
 use Rattle.seek.specs.declared.Start as Start
+use Rattle.seek.specs.declared.Part.{Part}
+use Rattle.seek.specs.declared.Followed as Followed
 
 -- ---- a store known to be good
 
@@ -36,6 +38,10 @@ recordsIn from end w = drop from (chunks end w)
 pub record Within (from end : ℕ) (w : List ℕ) : Type 0 where
   pub order : from ≤ end
   pub room : end * 12 ≤ length w
+
+-- five record numbers, from the model's down
+abbrev pub fiveNumbers : List ℕ → RecordNumbers
+fiveNumbers l = record { model = getD l 0 0; chain = getD l 1 0; residue = getD l 2 0; conformer = getD l 3 0; atom = getD l 4 0 }
 
 -- ---- over the records
 
@@ -63,6 +69,15 @@ toEnd h m after = some (m, suc m + descendants h after)
 
 abbrev pub childSpan : ℕ → ℕ → ℕ → List Words → Option (ℕ × ℕ)
 childSpan h i n rs = atChild h i (toEnd h) n rs
+
+-- the records below a position among those below a record of kind g, which are numbered from n on: each index leads to a child, whose number is noted
+unfoldable pub partIn : ℕ → List ℕ → List ℕ → ℕ → List Words → Option Part
+partIn g path [] n rs = some (record { from = n; end = n + descendants g rs; depth = g; path = fiveNumbers path })
+partIn g path (i ∷ is) n rs = atChild (suc g) i (λ m after. partIn (suc g) (set path g m) is (suc m) after) n rs
+
+-- those of a machine
+abbrev pub partOf : List ℕ → Machine → Option Part
+partOf pos m = partIn 0 (replicate {A = ℕ} 5 0) pos 0 (records m)
 
 -- how many records are atoms
 abbrev pub isAtom : Words → ℕ
@@ -101,3 +116,7 @@ startOf (some n) = Start.the-variants.At n
 abbrev pub spanOf : Option (ℕ × ℕ) → Span.Span
 spanOf none = Span.the-variants.Missing
 spanOf (some s) = Span.the-variants.At (s .0) (s .1)
+
+abbrev pub followedOf : Option Part → Followed.Followed
+followedOf none = Followed.the-variants.Missing
+followedOf (some p) = Followed.the-variants.To p

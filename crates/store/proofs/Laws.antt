@@ -9,7 +9,7 @@ use Rattle.machine.specs.Answer.{Result, ok, refused, _>>_, need, editedNumbers
 use Rattle.machine.specs.Text.{Optional}
 use Rattle.machine.specs.Record.{Words}
 use Rattle.machine.specs.Store.{Machine, stored, goodLength, recordsOf, inOrder, goodLayout, group, readStore}
-use Rattle.machine.specs.Find.{hitsOf, findRun}
+use Rattle.machine.specs.Find.{hitsFrom, findFrom}
 use Rattle.machine.specs.Edit.{Change, stepBy}
 use Rattle.machine.specs.Lookup.{lookupRun}
 use Rattle.machine.specs.declared.Refusal.{Refusal}
@@ -56,13 +56,9 @@ module _ {c : Refusal} (w : List ℕ) (h : Refused c ≡ checkedBy (readStore w)
   pub refused-store : readStore w ≡ refused c
   refused-store = refused-read (readStore w) h
 
-  pub refused-hits : (t : List ℕ) → hitsOf w t ≡ refused c
-  unfolding hitsOf
-  refused-hits t = rw refused-store
-
-  pub refused-find : (t out : List ℕ) → findRun w t out ≡ (foundNumbers (Found.the-variants.Refused c), out)
-  unfolding findRun
-  refused-find t out = rw (refused-hits t)
+  pub refused-find : (start t out : List ℕ) → findFrom w start t out ≡ (foundNumbers (Found.the-variants.Refused c), out)
+  unfolding findFrom hitsFrom
+  refused-find start t out = rw refused-store
 
   pub refused-step : (step : Machine → Result Change) → stepBy w step ≡ (editedNumbers (Edited.the-variants.Refused c), w)
   unfolding stepBy

@@ -1,11 +1,22 @@
 // After chain.rs.
 ghost use mathlib.Core.Path.{_≡_};
-ghost use Rattle.machine.specs.Answer.{editedNumbers};
+ghost use mathlib.Core.List.{[], _∷_};
+ghost use Rattle.machine.specs.Answer.{editedNumbers, foundNumbers};
 ghost use Rattle.machine.specs.Text.{optionalOf};
 ghost use Rattle.machine.specs.Edit.{storeStep, RemoveResidue, RemoveResidueById, JoinChains};
+ghost use Rattle.machine.specs.Find.{findFrom};
 use super::positions;
 use machine::Edited;
+use machine::Found;
 use store::Checked;
+
+// The hits of a tree among the atoms below, change request §4.
+pub fn find(store: &[u64], model: u64, chain: u64, tree: &[u64], out: &mut [u64]) -> Found
+    ensures { λ r. ⌜ (foundNumbers r, now (out .exit)) ≡ findFrom (now (store .entry)) (model ∷ chain ∷ []) (now (tree .entry)) (now (out .entry)) ⌝ }
+{
+    let start = [model, chain];
+    walk::find(store, &start, tree, out)
+}
 
 pub fn remove_residue(store: &mut [u64], model: u64, chain: u64, residue: u64) -> Edited
     ensures { λ r. ⌜ (editedNumbers r, now (store .exit)) ≡ storeStep (now (store .entry)) (RemoveResidue model chain residue) ⌝ }

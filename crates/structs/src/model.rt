@@ -1,10 +1,13 @@
 // After model.rs.
 ghost use mathlib.Core.Path.{_≡_};
-ghost use Rattle.machine.specs.Answer.{editedNumbers};
+ghost use mathlib.Core.List.{[], _∷_};
+ghost use Rattle.machine.specs.Answer.{editedNumbers, foundNumbers};
 ghost use Rattle.machine.specs.Text.{optionalOf};
 ghost use Rattle.machine.specs.Edit.{storeStep, addition, AddAtom, RemoveChain, RemoveChainById, RemoveAtomsBy, RemoveEmpty, JoinModels};
+ghost use Rattle.machine.specs.Find.{findFrom};
 use super::positions;
 use machine::Edited;
+use machine::Found;
 use machine::NewAtom;
 use store::Checked;
 
@@ -44,6 +47,14 @@ pub fn add_atom(
             additions::add_atom(store, model, prepared)
         }
     }
+}
+
+// The hits of a tree among the atoms below, change request §4.
+pub fn find(store: &[u64], model: u64, tree: &[u64], out: &mut [u64]) -> Found
+    ensures { λ r. ⌜ (foundNumbers r, now (out .exit)) ≡ findFrom (now (store .entry)) (model ∷ []) (now (tree .entry)) (now (out .entry)) ⌝ }
+{
+    let start = [model];
+    walk::find(store, &start, tree, out)
 }
 
 pub fn remove_chain(store: &mut [u64], model: u64, chain: u64) -> Edited

@@ -36,7 +36,7 @@ pub fn add_model(store: &mut [u64], serial: u64) -> Edited
 pub fn find(store: &[u64], tree: &[u64], out: &mut [u64]) -> Found
     ensures { λ r. ⌜ (foundNumbers r, now (out .exit)) ≡ findRun (now (store .entry)) (now (tree .entry)) (now (out .entry)) ⌝ }
 {
-    walk::find(store, tree, out)
+    walk::find(store, &[], tree, out)
 }
 
 // "Lookup (serial, alternative location as given) in the first model"

@@ -3,7 +3,7 @@ use Prim.Native.Nat.{ℕ, _+_, _*_, _≤_}
 use mathlib.Core.Bool.{Bool, true, false}
 use mathlib.Core.List.{List}
 use mathlib.Core.Option.{Option, none, some}
-use lib.ListN.{length, getD}
+use lib.ListN.{length}
 use Rattle.machine.specs.Record.{Model, Chain, Residue, Conformer, Atom, fieldsOf}
 use Rattle.machine.specs.Query.{Place, window, termValue}
 use Rattle.machine.specs.declared.Tri.{Tri}
@@ -75,10 +75,6 @@ narrow True False = False
 narrow True True = True
 narrow True Undecided = True
 narrow Undecided b = b
-
--- five record numbers, from the model's down
-abbrev pub fiveNumbers : List ℕ → RecordNumbers
-fiveNumbers l = record { model = getD l 0 0; chain = getD l 1 0; residue = getD l 2 0; conformer = getD l 3 0; atom = getD l 4 0 }
 
 -- the five records stand in the words
 pub record Inside (w : List ℕ) (at : RecordNumbers) : Type 0 where

@@ -2,42 +2,44 @@
 use Prim.Native.Nat.{ℕ, suc, _+_, _-_, _*_, _/_, _≤_, _<_}
 use mathlib.Core.Path.{_≡_, refl, sym, ap, _∙_}
 use mathlib.Core.Bool.{Bool, true, false, cond}
-use mathlib.Core.List.{List, [], _∷_, map, append-assoc}
+use mathlib.Core.List.{List, [], _∷_, append-assoc}
 use native.Mathlib.Omega.{arith}
-use lib.ListN.{length, take, drop, getD, set, length-append, length-map, length-set}
-use lib.Seq.{sets-eq}
-use lib.Dec.{eqb, leb}
-use borrow.Author.Tests.{eq-eqb, ne-eqb, le-leb, leb-true, leb-false, lt-leb}
-use Rattle.machine.specs.Lists.{keep, filter}
+use lib.ListN.{length, take, drop, getD, set, length-set}
+use lib.Seq.{sets-eq, take-all, take-nil}
+use lib.Dec.{eqb, leb, ltb}
+use borrow.Author.Tests.{eq-eqb, ne-eqb, le-leb, leb-true, lt-leb, le-ltb, lt-ltb, ltb-true, ltb-false}
+use Rattle.machine.specs.Lists.{keep}
 use Rattle.machine.specs.Answer.{ok, foundNumbers}
-use Rattle.machine.specs.Store.{Machine, records, stored, readStore}
+use Rattle.machine.specs.Store.{Machine, readStore}
 use Rattle.machine.specs.Kleene.{isHit}
 use Rattle.machine.specs.Query.{Names, readTree, tables}
-use Rattle.machine.specs.Find.{Site, atomsOf, valueFrom, hitsIn, hitsOf, hitWords, written, findRun}
+use Rattle.machine.specs.Find.{lowest, hitsAmong, hitsFrom, hitWords, written, findFrom}
 use Rattle.machine.specs.declared.RecordNumbers.{RecordNumbers}
 use Rattle.machine.specs.declared.Refusal.{Refusal}
-use Rattle.machine.specs.declared.Refusal.the-variants.{ShortOutput}
+use Rattle.machine.specs.declared.Refusal.the-variants.{NoPosition, ShortOutput}
 use Rattle.machine.specs.declared.Found as Found
 use Rattle.laws.specs.Lists.{All}
-use Rattle.laws.specs.Numbers.{five-numbers, atoms-stored}
+use Rattle.laws.specs.Numbers.{hits-few, hits-five, five-words}
 use Rattle.moves.specs.Over.{over}
 use Rattle.moves.proofs.Laws.{over-length, over-none, over-over}
-use Rattle.seek.specs.Seek.{recordsIn, held}
+use Rattle.seek.specs.Seek.{Good, Within, held, recordsIn, atomRecords, fiveNumbers, partOf, followedOf}
+use Rattle.seek.specs.declared.Part.{Part}
+use Rattle.seek.specs.declared.Followed as Followed
 use Rattle.seek.proofs.Below.{record-kind, recordsIn-cons}
-use Rattle.seek.proofs.Laws.{whole-within}
+use Rattle.seek.proofs.Turns.{at-part, no-part}
 use Rattle.store.specs.Store.{checkedBy}
 use Rattle.store.proofs.Laws.{Held, good-store, refused-find}
 use Rattle.store.specs.declared.Checked as Checked
 use Rattle.search.specs.Nodes.{checked}
 use Rattle.search.proofs.Laws.{tree-then, tree-refused}
 use Rattle.search.specs.declared.CheckedTree as CheckedTree
-use Rattle.terms.specs.Levels.{fiveNumbers, Inside}
-use Rattle.descent.specs.Descent.{five, start, UpTo, valueBy, Settled, Turned}
+use Rattle.terms.specs.Levels.{Inside}
+use Rattle.descent.specs.Descent.{five, UpTo, valueBy, Settled, Turned}
 use Rattle.descent.specs.declared.State.{State}
-use Rattle.descent.proofs.Sites.{enteredAt, up-entered, up-next, five-is, entered-five}
+use Rattle.descent.proofs.Sites.{enteredAt, up-entered, up-more, five-is, entered-five}
 use Rattle.descent.proofs.Turns.{settled-entered}
-use Rattle.walk.specs.Walk.{foundIn, wrote, Levelled, Ready, Asked}
-use Rattle.walk.proofs.Whole.{whole-levels, found-whole}
+use Rattle.walk.specs.Walk.{foundIn, foundBelow, askedBelow, putHit, wrote, partUnder, Levelled, Ready, Asked}
+use Rattle.walk.proofs.Parts.{Started, no-start, started}
 use Rattle.walk.proofs.Turns.{found-end, found-deep, found-next}
 
 depth-high : (k : ℕ) → k ≤ 5 → (b : Bool) → cond b k (k - 1) ≤ 5
@@ -57,10 +59,21 @@ pub record Walking (w t residues atoms : List ℕ) (low end : ℕ) (hits : List 
   pub few : found ≤ n
   pub all : found + length (foundIn w n end t low d at residues atoms) ≡ length hits
 
-pub walk-start : (w t residues atoms : List ℕ) (low from end d : ℕ) (at : RecordNumbers) → Ready w from end t d at
-    → Walking w t residues atoms low end (foundIn w from end t low d at residues atoms) from d 5 at 0
-walk-start w t residues atoms low from end d at r =
-    record { order = r .within .order; room = r .within .room; kinds = r .kinds; depth = r .depth; settled = λ z. absurd (omega arith); numbers = r .numbers; few = omega arith; all = omega arith }
+pub walk-start : (w t residues atoms : List ℕ) (p : Part) → Ready w p t
+    → Walking w t residues atoms (p .depth + 1) (p .end) (foundBelow w p t residues atoms) (p .from) (p .depth) 5 (p .path) 0
+walk-start w t residues atoms p r =
+    let q = r .part in
+    let d = q .depth in
+    record {
+      order = q .within .order;
+      room = q .within .room;
+      kinds = q .kinds;
+      depth = omega arith;
+      settled = λ z. absurd (omega arith);
+      numbers = q .numbers;
+      few = omega arith;
+      all = omega arith;
+    }
 
 module _ (w t residues atoms : List ℕ) (low end : ℕ) (hits : List (List ℕ)) (n d s : ℕ) (at : RecordNumbers) (found : ℕ) (i : Walking w t residues atoms low end hits n d s at found) where
   abbrev k : ℕ
@@ -95,7 +108,7 @@ module _ (w t residues atoms : List ℕ) (low end : ℕ) (hits : List (List ℕ)
           kinds = split .1;
           depth = i .depth;
           settled = i .settled;
-          numbers = up-next n at (i .numbers);
+          numbers = up-more n (n + 1) at (omega arith) (i .numbers);
           few = omega (arith, i .few);
           all = omega (arith, i .all, ap length (found-deep w t residues atoms low end n d at more (i .depth) h));
         }
@@ -129,7 +142,7 @@ module _ (w t residues atoms : List ℕ) (low end : ℕ) (hits : List (List ℕ)
               kinds = split .1;
               depth = high;
               settled = turned .settled;
-              numbers = up-next n to up;
+              numbers = up-more n (n + 1) to (omega arith) up;
               few = omega (arith, i .few);
               all = omega (arith, i .all, ap length (walk-on true (eq-eqb (r .live) 5 e)));
             }
@@ -142,7 +155,7 @@ module _ (w t residues atoms : List ℕ) (low end : ℕ) (hits : List (List ℕ)
               kinds = split .1;
               depth = high;
               settled = turned .settled;
-              numbers = up-next n to up;
+              numbers = up-more n (n + 1) to (omega arith) up;
               few = omega (arith, i .few);
               all = omega (arith, i .all, ap length (walk-on false (ne-eqb (r .live) 5 e)));
             }
@@ -150,32 +163,44 @@ module _ (w t residues atoms : List ℕ) (low end : ℕ) (hits : List (List ℕ)
 -- ---- writing
 
 -- five stores
-pub put-law : (out : List ℕ) (word : ℕ) (at : RecordNumbers) → word + 5 ≤ length out
+put-five : (out : List ℕ) (word : ℕ) (at : RecordNumbers) → word + 5 ≤ length out
     → set (set (set (set (set out word (at .model)) (word + 1) (at .chain)) (word + 2) (at .residue)) (word + 3) (at .conformer)) (word + 4) (at .atom) ≡ over word (five at) out
 unfolding over
-put-law out word at h =
+put-five out word at h =
     let e : word + 1 ≡ suc word = omega arith in
     let f : word + 2 ≡ suc (suc word) = omega arith in
     let g : word + 3 ≡ suc (suc (suc word)) = omega arith in
     let i : word + 4 ≡ suc (suc (suc (suc word))) = omega arith in
     rw (e, f, g, i) (sets-eq (five at) out word h ∙ append-assoc (take word out) (five at) (drop (word + 5) out))
 
--- the hits still to come, written where they go, make the output whole
+pub put-law : (out : List ℕ) (hit : ℕ) (at : RecordNumbers) → hit < length out / 5
+    → set (set (set (set (set out (hit * 5) (at .model)) (hit * 5 + 1) (at .chain)) (hit * 5 + 2) (at .residue)) (hit * 5 + 3) (at .conformer)) (hit * 5 + 4) (at .atom) ≡ putHit hit (five at) out
+put-law out hit at h = put-five out (hit * 5) at (omega arith) ∙ sym (rw (lt-ltb hit (length out / 5) h))
+
+pub put-none : (out : List ℕ) (hit : ℕ) (at : RecordNumbers) → length out / 5 ≤ hit → out ≡ putHit hit (five at) out
+put-none out hit at h = sym (rw (le-ltb hit (length out / 5) h))
+
+-- the hits still to come that there is room for, written where they go, make the output whole
 pub record Writing (w t residues atoms : List ℕ) (low end : ℕ) (hits : List (List ℕ)) (out₀ : List ℕ) (n d s : ℕ) (at : RecordNumbers) (found : ℕ) (out : List ℕ) : Type 0 where
   pub walking : Walking w t residues atoms low end hits n d s at found
   pub long : length out ≡ length out₀
-  pub words : over (found * 5) (hitWords (foundIn w n end t low d at residues atoms)) out ≡ over 0 (hitWords hits) out₀
+  pub words : over (found * 5) (hitWords (take (length out₀ / 5 - found) (foundIn w n end t low d at residues atoms))) out ≡ over 0 (hitWords (take (length out₀ / 5) hits)) out₀
 
-pub write-start : (w t residues atoms : List ℕ) (low from end d : ℕ) (at : RecordNumbers) (out : List ℕ) → Ready w from end t d at
-    → Writing w t residues atoms low end (foundIn w from end t low d at residues atoms) out from d 5 at 0 out
-write-start w t residues atoms low from end d at out r = record { walking = walk-start w t residues atoms low from end d at r; long = refl; words = refl }
+pub write-start : (w t residues atoms : List ℕ) (p : Part) (out : List ℕ) → Ready w p t
+    → Writing w t residues atoms (p .depth + 1) (p .end) (foundBelow w p t residues atoms) out (p .from) (p .depth) 5 (p .path) 0 out
+write-start w t residues atoms p out r =
+    let z : length out / 5 - 0 ≡ length out / 5 = omega arith in
+    record { walking = walk-start w t residues atoms p r; long = refl; words = rw z }
 
 module _ (w t residues atoms : List ℕ) (low end : ℕ) (hits : List (List ℕ)) (out₀ : List ℕ) (n d s : ℕ) (at : RecordNumbers) (found : ℕ) (out : List ℕ) (i : Writing w t residues atoms low end hits out₀ n d s at found out) where
   abbrev kindAt : ℕ
   kindAt = getD w (n * 12) 0
 
+  abbrev left : ℕ
+  left = length out₀ / 5 - found
+
   abbrev put : List (List ℕ) → List ℕ
-  put hs = over (found * 5) (hitWords hs) out
+  put hs = over (found * 5) (hitWords (take left hs)) out
 
   walk : Walking w t residues atoms low end hits n d s at found
   walk = i .walking
@@ -183,7 +208,7 @@ module _ (w t residues atoms : List ℕ) (low end : ℕ) (hits : List (List ℕ)
   pub write-end : end ≤ n → (found, out) ≡ wrote hits out₀
   write-end h =
       let c = walk-end w t residues atoms low end hits n d s at found walk h in
-      let o : out ≡ over 0 (hitWords hits) out₀ = sym (over-none (found * 5) out) ∙ ap put (sym (found-end w t residues atoms low end n d at h)) ∙ i .words in
+      let o : out ≡ over 0 (hitWords (take (length out₀ / 5) hits)) out₀ = sym (over-none (found * 5) out) ∙ ap (λ (hs : List (List ℕ)). over (found * 5) (hitWords hs) out) (sym (take-nil left)) ∙ ap put (sym (found-end w t residues atoms low end n d at h)) ∙ i .words in
       λ j. (c j, o j)
 
   module _ (more : n < end) where
@@ -207,146 +232,151 @@ module _ (w t residues atoms : List ℕ) (low end : ℕ) (hits : List (List ℕ)
             words = ap put (sym (on false (ne-eqb (r .live) 5 e))) ∙ i .words;
           }
 
-      module _ (fits : 5 * length hits ≤ length out₀) (e : r .live ≡ 5) where
-        pub write-room : found * 5 + 5 ≤ length out
-        write-room = omega (arith, walk .all, i .long, ap length (on true (eq-eqb (r .live) 5 e)))
+      module _ (e : r .live ≡ 5) where
+        abbrev rest : List (List ℕ)
+        rest = foundIn w (n + 1) end t low (r .live) to residues atoms
 
-        pub write-hit : (out′ : List ℕ) → out′ ≡ over (found * 5) (five to) out → Writing w t residues atoms low end hits out₀ (n + 1) (r .live) (r .settled) to (found + 1) out′
-        write-hit out′ p =
-            let rest = hitWords (foundIn w (n + 1) end t low (r .live) to residues atoms) in
+        was : put (five to ∷ rest) ≡ over 0 (hitWords (take (length out₀ / 5) hits)) out₀
+        was = ap put (sym (on true (eq-eqb (r .live) 5 e))) ∙ i .words
+
+        by-room : (out′ : List ℕ) (b : Bool) → ltb found (length out / 5) ≡ b → out′ ≡ cond b (over (found * 5) (five to) out) out
+            → Writing w t residues atoms low end hits out₀ (n + 1) (r .live) (r .settled) to (found + 1) out′
+        by-room out′ true q p =
+            let l = ltb-true found (length out / 5) q in
+            let o = i .long in
             let z : (found + 1) * 5 ≡ found * 5 + 5 = omega arith in
-            let room = write-room in
+            let y : left ≡ suc (length out₀ / 5 - (found + 1)) = omega arith in
+            let room : found * 5 + 5 ≤ length out = omega arith in
             record {
               walking = walk-hit w t residues atoms low end hits n d s at found walk more to is near r turned e;
-              long = ap length p ∙ over-length (found * 5) (five to) out room ∙ i .long;
-              words = ap (λ (x : ℕ). over x rest out′) z
-                  ∙ ap (over (found * 5 + 5) rest) p
-                  ∙ over-over (found * 5) (five to) rest out (omega arith)
-                  ∙ ap put (sym (on true (eq-eqb (r .live) 5 e)))
-                  ∙ i .words;
+              long = ap length p ∙ over-length (found * 5) (five to) out room ∙ o;
+              words = rw (z, p) (over-over (found * 5) (five to) (hitWords (take (length out₀ / 5 - (found + 1)) rest)) out (omega arith)) ∙ ap (λ (x : ℕ). over (found * 5) (hitWords (take x (five to ∷ rest))) out) (sym y) ∙ was;
+            }
+        by-room out′ false q p =
+            let l = ltb-false found (length out / 5) q in
+            let o = i .long in
+            let y : left ≡ 0 = omega arith in
+            let x : length out₀ / 5 - (found + 1) ≡ 0 = omega arith in
+            record {
+              walking = walk-hit w t residues atoms low end hits n d s at found walk more to is near r turned e;
+              long = ap length p ∙ o;
+              words = rw (x, p) (over-none ((found + 1) * 5) out ∙ sym (over-none (found * 5) out)) ∙ ap (λ (m : ℕ). over (found * 5) (hitWords (take m (five to ∷ rest))) out) (sym y) ∙ was;
             }
 
--- ---- the whole store
+        pub write-hit : (out′ : List ℕ) → out′ ≡ putHit found (five to) out → Writing w t residues atoms low end hits out₀ (n + 1) (r .live) (r .settled) to (found + 1) out′
+        write-hit out′ p = by-room out′ (ltb found (length out / 5)) refl p
 
-few-kept : (b : Bool) (x : Site) (xs : List Site) (n : ℕ) → length xs ≤ n → length (keep b x xs) ≤ suc n
-few-kept true x xs n h = omega arith
-few-kept false x xs n h = omega arith
+-- ---- the room
 
-few-filter : (p : Site → Bool) (xs : List Site) → length (filter p xs) ≤ length xs
-few-filter p [] = omega arith
-few-filter p (x ∷ xs) = few-kept (p x) x (filter p xs) (length xs) (few-filter p xs)
+module _ (w : List ℕ) (p : Part) (total : ℕ) (asked : Asked w p total) (room : ℕ) where
+  abbrev there : ℕ
+  there = atomRecords (recordsIn (p .from) (p .end) w)
 
--- at most as many hits as atoms
-few-hits : (names : Names) (t : List ℕ) (m : Machine) → length (hitsIn names t m) ≤ stored m
-unfolding hitsIn
-few-hits names t m = simp length-map (omega (arith, few-filter (λ s. isHit (valueFrom names 1 t s)) (atomsOf m), atoms-stored m))
+  pub all-taken : total ≤ room → true ≡ leb there room
+  all-taken h = sym (le-leb there room (omega (arith, asked .holds .counted, asked .few)))
 
--- the walk over a whole store
-pub whole-ready : (w t : List ℕ) (total : ℕ) → Asked w t total → (end : ℕ) (at : RecordNumbers) → end ≡ length (records (held w)) → at ≡ start → Ready w 0 end t 0 at
-whole-ready w t total asked end at all is =
-    rw (all, is)
-    (record {
-      within = whole-within w (asked .store);
-      kinds = whole-levels w (asked .store);
-      tree = asked .tree;
-      depth = omega arith;
-      numbers = record { model = omega arith; chain = omega arith; residue = omega arith; conformer = omega arith; atom = omega arith };
-    })
+  pub whole-left : room < total → p .depth ≡ 0 → false ≡ leb there room
+  whole-left h d = sym (lt-leb there room (omega (arith, asked .holds .counted, asked .whole d)))
 
-module _ (w t residues atoms : List ℕ) (total : ℕ) (asked : Asked w t total) where
+pub part-within : (w : List ℕ) (p : Part) (total : ℕ) → Asked w p total → Within (p .from) (p .end) w
+part-within w p total asked = asked .holds .part .within
+
+pub as-counted : (room n c : ℕ) → c ≡ n → leb c room ≡ leb n room
+as-counted room n c e = ap (λ (x : ℕ). leb x room) e
+
+module _ (w t residues atoms : List ℕ) (p : Part) (total : ℕ) (asked : Asked w p total) where
   abbrev names : Names
   names = record { residues = residues; atoms = atoms }
 
   abbrev hits : List (List ℕ)
-  hits = hitsIn names t (held w)
+  hits = foundBelow w p t residues atoms
 
-  pub enough-for-all : (room : ℕ) → total ≤ room → true ≡ leb (length hits) room
-  enough-for-all room h = sym (le-leb (length hits) room (omega (arith, few-hits names t (held w), asked .atoms)))
+  five-each : length (hitWords hits) ≡ 5 * length hits
+  five-each = rw (asked .holds .found t names) (five-words (hitsAmong names (p .depth + 1) t (asked .atoms)) (hits-five names (p .depth + 1) t (asked .atoms) (asked .holds .five)))
 
-  module _ (end : ℕ) (at : RecordNumbers) (all : end ≡ length (records (held w))) (is : at ≡ start) where
-    pub whole-hits : foundIn w 0 end t 1 0 at residues atoms ≡ hits
-    whole-hits = rw (all, is) (found-whole w (asked .store) t names)
+  pub ready-law : checked (readTree t) ≡ CheckedTree.the-variants.Good → Ready w p t
+  ready-law e = record { part = asked .holds .part; tree = e }
 
-    pub enough-counted : (c room : ℕ) → c ≡ length (foundIn w 0 end t 1 0 at residues atoms) → leb c room ≡ leb (length hits) room
-    enough-counted c room e = ap (λ (x : ℕ). leb x room) (e ∙ ap length whole-hits)
+  module _ (out : List ℕ) (room : ℕ) (is : room ≡ length out / 5) where
+    -- no more hits than atoms
+    pub all-fit : (b : Bool) → b ≡ leb (atomRecords (recordsIn (p .from) (p .end) w)) room → b ≡ true → 5 * length hits ≤ length out
+    all-fit b e f =
+        let l = leb-true (atomRecords (recordsIn (p .from) (p .end) w)) room (sym e ∙ f) in
+        let h = asked .holds in
+        omega (arith, ap length (h .found t names), hits-few names (p .depth + 1) t (asked .atoms), h .counted)
 
-filter-all : (P : Site → Type 0) (p : Site → Bool) (xs : List Site) → All P xs → All P (filter p xs)
-filter-all P p [] a = tt
-filter-all P p (x ∷ xs) a = kept (p x) (filter-all P p xs (a .1))
-  where
-    kept : (b : Bool) → All P (filter p xs) → All P (keep b x (filter p xs))
-    kept true r = (a .0, r)
-    kept false r = r
+    -- or no more than were counted
+    module _ (c : ℕ) (out₁ out₂ : List ℕ) (e : (c, out₁) ≡ wrote hits out₂) where
+      counts : c ≡ length hits
+      counts = ap (λ (x : ℕ × List ℕ). x .0) e
 
-words-five : (ss : List Site) → All (λ s. length (s .numbers) ≡ 5) ss → length (hitWords (map (λ s. s .numbers) ss)) ≡ 5 * length ss
-words-five [] a = refl
-words-five (s ∷ ss) a =
-    let r = words-five ss (a .1) in
-    omega (arith, length-append (s .numbers) (hitWords (map (λ s. s .numbers) ss)), a .0)
+      pub counted-fit : c ≤ room → 5 * length hits ≤ length out
+      counted-fit l = omega (arith, counts)
 
--- five words to a hit
-hits-five : (names : Names) (t : List ℕ) (m : Machine) → length (hitWords (hitsIn names t m)) ≡ 5 * length (hitsIn names t m)
-unfolding hitsIn
-hits-five names t m =
-    let p : Site → Bool = λ s. isHit (valueFrom names 1 t s) in
-    let e = words-five (filter p (atomsOf m)) (filter-all _ p (atomsOf m) (five-numbers m)) in
-    simp length-map e
+      pub no-room : room < c → (foundNumbers (Found.the-variants.Refused ShortOutput), out) ≡ written out (ok hits)
+      no-room l = sym (rw (lt-leb (5 * length hits) (length out) (omega (arith, counts))))
+
+  pub found-law : (out : List ℕ) → 5 * length hits ≤ length out → (r : ℕ) (out′ : List ℕ) → (r, out′) ≡ wrote hits out
+      → (foundNumbers (Found.the-variants.Hits r), out′) ≡ written out (ok hits)
+  unfolding over
+  found-law out fits r out′ q =
+      let z : 0 + length (hitWords hits) ≡ 5 * length hits = omega (arith, five-each) in
+      let all : take (length out / 5) hits ≡ hits = take-all (length out / 5) hits (omega arith) in
+      ap (λ (x : ℕ × List ℕ). (foundNumbers (Found.the-variants.Hits (x .0)), x .1)) q
+      ∙ rw (all, z) (sym (rw (le-leb (5 * length hits) (length out) fits)))
+
+-- ---- the tree
+
+pub good-tree : (t : List ℕ) (x : CheckedTree.CheckedTree) → x ≡ checked (readTree t) → x ≡ CheckedTree.the-variants.Good → checked (readTree t) ≡ CheckedTree.the-variants.Good
+good-tree t x g h = sym g ∙ h
+
+module _ (w t : List ℕ) (p : Part) (x : CheckedTree.CheckedTree) (g : x ≡ checked (readTree t)) (out : List ℕ) where
+  pub no-tree : {c : Refusal} → x ≡ CheckedTree.the-variants.Refused c → (foundNumbers (Found.the-variants.Refused c), out) ≡ written out (askedBelow w p t)
+  no-tree h = rw (tree-refused (readTree t) _ (sym g ∙ h))
+
+  module _ (h : x ≡ CheckedTree.the-variants.Good) (residues atoms : List ℕ) (one : residues ≡ tables .residues) (two : atoms ≡ tables .atoms) where
+    pub by-tables : {y : List ℕ × List ℕ} → y ≡ written out (ok (foundBelow w p t residues atoms)) → y ≡ written out (askedBelow w p t)
+    by-tables k = k ∙ rw (one, two, tree-then (readTree t) (ok (foundBelow w p t (tables .residues) (tables .atoms))) (sym g ∙ h))
+
+-- ---- the start
+
+pub short-start : (start : List ℕ) (m : Machine) (r : Followed.Followed) → length start ≤ 4 → r ≡ followedOf (partOf start m) → r ≡ followedOf (partUnder start m)
+short-start start m r l e = e ∙ rw (le-leb (length start) 4 l)
+
+pub long-start : (start : List ℕ) (m : Machine) → 4 < length start → Followed.the-variants.Missing ≡ followedOf (partUnder start m)
+long-start start m l = rw (lt-leb (length start) 4 l)
+
+pub held-good : {total : ℕ} (w : List ℕ) (r : Checked.Checked) → r ≡ checkedBy (readStore w) → r ≡ Checked.the-variants.Good total → Good w
+held-good w r e f = good-store w (sym f ∙ e) .read
 
 -- find, by the answers of its parts
-module _ (w t : List ℕ) where
-  pub no-store : (out : List ℕ) {c : Refusal} (r : Checked.Checked) → r ≡ checkedBy (readStore w) → r ≡ Checked.the-variants.Refused c
-      → (foundNumbers (Found.the-variants.Refused c), out) ≡ findRun w t out
-  no-store out r e f = sym (refused-find w (sym f ∙ e) t out)
+module _ (w start t out : List ℕ) where
+  pub no-store : {c : Refusal} (r : Checked.Checked) → r ≡ checkedBy (readStore w) → r ≡ Checked.the-variants.Refused c
+      → (foundNumbers (Found.the-variants.Refused c), out) ≡ findFrom w start t out
+  no-store r e f = sym (refused-find w (sym f ∙ e) start t out)
 
-  module _ {total : ℕ} (r : Checked.Checked) (e : r ≡ checkedBy (readStore w)) (f : r ≡ Checked.the-variants.Good total) (x : CheckedTree.CheckedTree) (g : x ≡ checked (readTree t)) where
+  module _ {total : ℕ} (r : Checked.Checked) (e : r ≡ checkedBy (readStore w)) (f : r ≡ Checked.the-variants.Good total) (x : Followed.Followed) (g : x ≡ followedOf (partUnder start (held w))) where
     is-held : Held w total
     is-held = good-store w (sym f ∙ e)
 
-    pub asked-law : x ≡ CheckedTree.the-variants.Good → Asked w t total
-    asked-law h = record { store = is-held .read; atoms = is-held .atoms; tree = sym g ∙ h }
+    pub no-position : x ≡ Followed.the-variants.Missing → (foundNumbers (Found.the-variants.Refused NoPosition), out) ≡ findFrom w start t out
+    unfolding findFrom hitsFrom
+    no-position h = rw (is-held .read, no-start w (is-held .read) start (no-part (partUnder start (held w)) (sym g ∙ h)))
 
-    pub no-tree : (out : List ℕ) {c : Refusal} → x ≡ CheckedTree.the-variants.Refused c → (foundNumbers (Found.the-variants.Refused c), out) ≡ findRun w t out
-    unfolding findRun hitsOf
-    no-tree out h = rw (is-held .read, tree-refused (readTree t) _ (sym g ∙ h))
+    module _ (p : Part) (h : x ≡ Followed.the-variants.To p) where
+      is-started : Started w (is-held .read) start p
+      is-started = started w (is-held .read) start p (at-part (partUnder start (held w)) p (sym g ∙ h))
 
-    module _ (h : x ≡ CheckedTree.the-variants.Good) (residues atoms : List ℕ) (one : residues ≡ tables .residues) (two : atoms ≡ tables .atoms) where
-      pub found-run : {y : List ℕ × List ℕ} (out : List ℕ) → y ≡ written out (ok (hitsIn (record { residues = residues; atoms = atoms }) t (held w))) → y ≡ findRun w t out
-      unfolding findRun hitsOf
-      found-run out k = k ∙ rw (one, two, is-held .read, tree-then (readTree t) (ok (hitsIn tables t (held w))) (sym g ∙ h))
+      pub asked-law : Asked w p total
+      asked-law =
+          let s = is-started in
+          let n = is-held .atoms in
+          record { atoms = s .atoms; holds = s .holds; few = omega (arith, s .few); whole = λ d. omega (arith, s .whole (omega (arith, s .depth))) }
 
-  module _ (out : List ℕ) (total : ℕ) (asked : Asked w t total) (residues atoms : List ℕ) (room : ℕ) (is : room ≡ length out / 5) (b : Bool)
-      (has : b ≡ leb (length (hitsIn (record { residues = residues; atoms = atoms }) t (held w))) room) where
-    all : List (List ℕ)
-    all = hitsIn (record { residues = residues; atoms = atoms }) t (held w)
-
-    all-five : length (hitWords all) ≡ 5 * length all
-    unfolding all
-    all-five = hits-five (record { residues = residues; atoms = atoms }) t (held w)
-
-    enough-is : b ≡ leb (length all) room
-    unfolding all
-    enough-is = has
-
-    pub no-room : b ≡ false → (foundNumbers (Found.the-variants.Refused ShortOutput), out) ≡ written out (ok (hitsIn (record { residues = residues; atoms = atoms }) t (held w)))
-    unfolding all
-    no-room f = let l = leb-false (length all) room (sym has ∙ f) in sym (rw (lt-leb (5 * length all) (length out) (omega arith)))
-
-    module _ (f : b ≡ true) (end : ℕ) (at : RecordNumbers) (ends : end ≡ length (records (held w))) (starts : at ≡ start) where
-      found-all : foundIn w 0 end t 1 0 at residues atoms ≡ all
-      unfolding all
-      found-all = whole-hits w t residues atoms total asked end at ends starts
-
-      fits : 5 * length all ≤ length out
-      fits = let l = leb-true (length all) room (sym enough-is ∙ f) in omega arith
-
-      pub has-room : 5 * length (foundIn w 0 end t 1 0 at residues atoms) ≤ length out
-      has-room = rw found-all fits
-
-      pub found-law : (r : ℕ) (out′ : List ℕ) → (r, out′) ≡ wrote (foundIn w 0 end t 1 0 at residues atoms) out
-          → (foundNumbers (Found.the-variants.Hits r), out′) ≡ written out (ok (hitsIn (record { residues = residues; atoms = atoms }) t (held w)))
-      unfolding over all
-      found-law r out′ p =
-          let z : 0 + length (hitWords all) ≡ 5 * length all = omega (arith, all-five) in
-          let q : (r, out′) ≡ wrote all out = p ∙ ap (λ (x : List (List ℕ)). wrote x out) found-all in
-          ap (λ (x : ℕ × List ℕ). (foundNumbers (Found.the-variants.Hits (x .0)), x .1)) q
-          ∙ rw z (sym (rw (le-leb (5 * length all) (length out) fits)))
+      pub found-run : {y : List ℕ × List ℕ} → y ≡ written out (askedBelow w p t) → y ≡ findFrom w start t out
+      unfolding findFrom hitsFrom
+      found-run k =
+          let s = is-started in
+          let low : p .depth + 1 ≡ lowest start = omega (arith, s .depth) in
+          let hits : foundBelow w p t (tables .residues) (tables .atoms) ≡ hitsAmong tables (lowest start) t (s .atoms) = s .holds .found t tables ∙ ap (λ (l : ℕ). hitsAmong tables l t (s .atoms)) low in
+          k ∙ rw (is-held .read, s .there, hits)

@@ -1,4 +1,4 @@
 pub mod Pruned
-pub mod Whole
+pub mod Parts
 pub mod Turns
 pub mod Laws

@@ -10,11 +10,11 @@ use lib.Dec.{ltb, eqb}
 use borrow.Author.Tests.{le-ltb, lt-ltb, ltb-true, ltb-false}
 use Rattle.machine.specs.Lists.{keep, filter}
 use Rattle.machine.specs.Record.{Fields, Words, kind, fieldsOf}
-use Rattle.machine.specs.Store.{Machine, records, inOrder}
+use Rattle.machine.specs.Store.{inOrder}
 use Rattle.machine.specs.Query.{Place, window}
-use Rattle.machine.specs.Find.{Site, enter, below, top, atomsOf}
+use Rattle.machine.specs.Find.{Site, enter, below}
 use Rattle.laws.specs.Ordered.{HeadParts, head-parts}
-use Rattle.laws.specs.Scan.{above, siteOf, scan, window-enter, scan-machine}
+use Rattle.laws.specs.Scan.{above, siteOf, scan, window-enter}
 use Rattle.descent.proofs.Sites.{window-window, above-above}
 use Rattle.walk.specs.PrunedPass.{depth, prunedPass}
 
@@ -152,8 +152,3 @@ module _ (h : Site → Bool) (grows : Grows h) where
   unfolding prunedPass scan y
   prunedPass-filter [] n live s l o = refl
   prunedPass-filter (r ∷ rs) n live s l o = one n live s r rs l (head-parts (depth s) r rs o) (prunedPass-filter rs) (ltb (suc (depth live)) (kind r)) (h (siteOf n s r)) refl refl
-
-  pub prunedPass-machine : (m : Machine) → inOrder 0 (records m) ≡ true → prunedPass h 0 top (records m) ≡ filter h (atomsOf m)
-  unfolding window
-  prunedPass-machine m o =
-      prunedPass-filter (records m) 0 top top (record { upper = refl; within = omega arith; dead = λ z. absurd (omega arith) }) o ∙ ap (filter h) (scan-machine m)

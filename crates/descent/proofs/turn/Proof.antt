@@ -1,6 +1,6 @@
 -- `descent::turn` meets its contract: a tree that is true above a record is true there, one that asks for no kind that is known is undecided, and else its value says what is below. Assumes nothing.
 use borrow.Author.Needs.{needs}
-use Rattle.terms.specs.Levels.{fiveNumbers}
+use Rattle.seek.specs.Seek.{fiveNumbers}
 use Rattle.descent.proofs.Turns.{turn-settled, turn-quiet, turn-false, turn-true, turn-undecided}
 use Rattle.descent.proofs.turn.Statement.{statement}
 use Rattle.descent.proofs.turn.Tie as tie

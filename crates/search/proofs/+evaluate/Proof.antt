@@ -9,7 +9,8 @@ use Rattle.machine.specs.declared.Tri.{Tri}
 use Rattle.machine.specs.declared.Term.{Term}
 use Rattle.search.specs.declared.Sort.the-variants as Sort
 use Rattle.search.proofs.Nodes.{has-term}
-use Rattle.terms.specs.Levels.{termValueAt, fiveNumbers}
+use Rattle.seek.specs.Seek.{fiveNumbers}
+use Rattle.terms.specs.Levels.{termValueAt}
 use Rattle.search.proofs.Postfix.{taken, on-sort, shorter, three, single, constant, under-not, negated, under-right, right-start, under-left, joined}
 use Prim.Native.Nat.{ℕ, _-_, _<_}
 use borrow.Fn.Kinds.{In}

@@ -1,7 +1,8 @@
 -- `search::value` meets its contract: the whole tree is one operand. Assumes nothing.
 use Rattle.machine.specs.declared.Tri.{Tri}
 use Rattle.machine.specs.declared.Term.{Term}
-use Rattle.terms.specs.Levels.{termValueAt, fiveNumbers}
+use Rattle.seek.specs.Seek.{fiveNumbers}
+use Rattle.terms.specs.Levels.{termValueAt}
 use Rattle.search.proofs.Postfix.{tree-operand, tree-value}
 use Rattle.search.proofs.value.Statement.{statement}
 use Rattle.search.proofs.value.Tie as tie

@@ -4,18 +4,18 @@ use Prim.Native.Nat.{_-_}
 use native.Mathlib.Omega.{arith}
 use mathlib.Core.Path.{_≡_, refl}
 use lib.ListN.{length}
-use Rattle.terms.specs.Levels.{fiveNumbers}
+use Rattle.seek.specs.Seek.{fiveNumbers}
 use Rattle.walk.specs.Walk.{foundIn}
-use Rattle.walk.proofs.Laws.{least, most, walk-entered, walk-five, walk-inside, walk-settled, Writing, write-start, write-end, write-deep, write-miss, write-room, write-hit}
+use Rattle.walk.proofs.Laws.{least, most, walk-entered, walk-five, walk-inside, walk-settled, Writing, write-start, write-end, write-deep, write-miss, write-hit}
 use Rattle.walk.proofs.find_in.Statement.{statement}
 use Rattle.walk.proofs.find_in.Tie as tie
 
 abbrev Inv-loop : tie.InvT-loop
-Inv-loop store from end tree low depth residues atoms out₀ topmost at₀ live₀ sure₀ found₀ n₀ out at live settled found n =
-    Writing store tree residues atoms low end (foundIn store from end tree low depth (fiveNumbers at₀) residues atoms) out₀ n live settled (fiveNumbers at) found out × (length at ≡ 5)
+Inv-loop store tree residues atoms out₀ topmost low end at₀ live₀ settled₀ found₀ n₀ out at live settled found n =
+    Writing store tree residues atoms low end (foundIn store n₀ end tree low live₀ (fiveNumbers at₀) residues atoms) out₀ n live settled (fiveNumbers at) found out × (length at ≡ 5)
 
 abbrev μ-loop : tie.MeasureT-loop
-μ-loop store from end tree low depth residues atoms out₀ topmost at₀ live₀ sure₀ found₀ n₀ out at live settled found n = end - n
+μ-loop store tree residues atoms out₀ topmost low end at₀ live₀ settled₀ found₀ n₀ out at live settled found n = end - n
 
 topmost-kind-requires : tie.Need-topmost-kind-requires Inv-loop μ-loop
 topmost-kind-requires c κs = search needs
@@ -24,7 +24,7 @@ numbers-of-requires : tie.Need-numbers-of-requires Inv-loop μ-loop
 numbers-of-requires c κs = search needs
 
 loop-holds : tie.Need-loop-holds Inv-loop μ-loop
-loop-holds c = rw (c .numbers-of .ensures) (write-start _ _ _ _ _ _ _ _ _ _ (c .before .before .before .before .before .before .before .pre .0), refl)
+loop-holds c = rw (c .numbers-of .ensures) (write-start _ _ _ _ _ _ (c .before .before .before .before .before .before .before .before .before .pre), refl)
 
 mul-kind : tie.Need-mul-kind Inv-loop μ-loop
 mul-kind c = omega arith
@@ -59,22 +59,15 @@ turn-requires c κs =
     let i = l .before .loop .inv .0 .walking in
     let more = l .loop-test .taken in
     let is = walk-entered _ _ _ _ _ _ _ _ _ _ _ _ i more (l .before .loop .at) (l .before .loop .inv .1) _ (c .before .enter .ensures) refl in (
-      l .before .before .before .before .before .before .before .before .before .pre .0 .tree,
+      l .before .before .before .before .before .before .before .before .before .before .before .pre .tree,
       walk-inside _ _ _ _ _ _ _ _ _ _ _ _ i more _ is,
       least _ _ _ _ _ _ _ _ _ _ _ _ i more,
       walk-settled _ _ _ _ _ _ _ _ _ _ _ _ i more _ is,
-      l .before .before .before .topmost-kind .ensures,
+      l .before .before .before .before .before .topmost-kind .ensures,
     )
 
 put-requires : tie.Need-put-requires Inv-loop μ-loop
-put-requires c κs =
-    let p = c .before .before in
-    let e = p .before .before .before in
-    let l = e .before .before .before .before in
-    let more = l .loop-test .taken in
-    let i = l .before .loop .inv .0 .walking in
-    let is = walk-entered _ _ _ _ _ _ _ _ _ _ _ _ i more (l .before .loop .at) (l .before .loop .inv .1) _ (e .enter .ensures) refl in
-    write-room _ _ _ _ _ _ _ _ _ _ _ _ _ _ (l .before .loop .inv .0) more _ is (e .before .before .if1 .left) _ (p .before .turn .ensures) (rw (l .before .before .numbers-of .ensures) (l .before .before .before .before .before .before .before .before .before .pre .1)) (p .if2 .taken)
+put-requires c κs = search needs
 
 add-found : tie.Need-add-found Inv-loop μ-loop
 add-found c = omega arith
@@ -93,7 +86,7 @@ loop-again-2 c =
     let more = l .loop-test .taken in
     let i = l .before .loop .inv .0 .walking in
     let is = walk-entered _ _ _ _ _ _ _ _ _ _ _ _ i more (l .before .loop .at) (l .before .loop .inv .1) _ (e .enter .ensures) refl in
-    (write-hit _ _ _ _ _ _ _ _ _ _ _ _ _ _ (l .before .loop .inv .0) more _ is (e .before .before .if1 .left) _ (p .before .turn .ensures) (rw (l .before .before .numbers-of .ensures) (l .before .before .before .before .before .before .before .before .before .pre .1)) (p .if2 .taken) _ (c .before .before .put .ensures), walk-five _ _ _ _ _ _ _ _ _ _ _ _ i more (l .before .loop .at) (l .before .loop .inv .1) _ (e .enter .ensures))
+    (write-hit _ _ _ _ _ _ _ _ _ _ _ _ _ _ (l .before .loop .inv .0) more _ is (e .before .before .if1 .left) _ (p .before .turn .ensures) (p .if2 .taken) _ (c .before .before .put .ensures), walk-five _ _ _ _ _ _ _ _ _ _ _ _ i more (l .before .loop .at) (l .before .loop .inv .1) _ (e .enter .ensures))
 
 add-n-3 : tie.Need-add-n-3 Inv-loop μ-loop
 add-n-3 c = omega arith
@@ -116,6 +109,9 @@ same-length c = c .before .loop .inv .0 .long
 returns : tie.Need-returns Inv-loop μ-loop
 returns c = rw (c .before .before .numbers-of .ensures) at (write-end _ _ _ _ _ _ _ _ _ _ _ _ _ _ (c .before .loop .inv .0) (c .loop-test .left))
 
+add-low : tie.Need-add-low Inv-loop μ-loop
+add-low c = search needs
+
 pub find-in-spec : {M : Type 1} → statement M
 find-in-spec =
     tie.close
@@ -123,6 +119,7 @@ find-in-spec =
     Inv-loop
     μ-loop
     topmost-kind-requires
+    add-low
     numbers-of-requires
     loop-holds
     mul-kind

@@ -1,12 +1,14 @@
 -- `walk::put` meets its contract: five stores write five words. Assumes nothing.
 use borrow.Author.Needs.{needs}
-use Prim.Native.Nat.{_*_}
 use native.Mathlib.Omega.{arith}
 use lib.ListN.{length-set}
-use Rattle.terms.specs.Levels.{fiveNumbers}
-use Rattle.walk.proofs.Laws.{put-law}
+use Rattle.seek.specs.Seek.{fiveNumbers}
+use Rattle.walk.proofs.Laws.{put-law, put-none}
 use Rattle.walk.proofs.put.Statement.{statement}
 use Rattle.walk.proofs.put.Tie as tie
+
+returns : tie.Need-returns
+returns c = search (needs, put-none)
 
 mul-word : tie.Need-mul-word
 mul-word c = search needs
@@ -71,13 +73,14 @@ slice-write-out-5 c = simp length-set (omega arith)
 same-length : tie.Need-same-length
 same-length c = search needs
 
-returns : tie.Need-returns
-returns c = let s = c .before .before .before .before .before in put-law (s .args .out .now) (s .args .hit * 5) (fiveNumbers (s .args .at .now)) (s .pre)
+returns-2 : tie.Need-returns-2
+returns-2 c = let s = c .before .before .before .before .before .before in put-law (s .args .out .now) (s .args .hit) (fiveNumbers (s .args .at .now)) (c .before .before .before .before .before .if1 .left)
 
 pub put-spec : {M : Type 1} → statement M
 put-spec =
     tie.close
     (tie.spec
+    returns
     mul-word
     element-copy-out-out
     mul-out
@@ -99,4 +102,4 @@ put-spec =
     mul-out-5
     slice-write-out-5
     same-length
-    returns)
+    returns-2)
