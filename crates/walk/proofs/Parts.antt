@@ -240,7 +240,7 @@ module _ (w : List ℕ) (good : Good w) where
           found = placed-found;
         }
 
-  -- a start has a part exactly where it has atoms
+  -- there is a part exactly where there is a start, and it holds the start's atoms
   abbrev Agree : Option Part → Option (List Site) → Type 0
   Agree none none = Unit {0}
   Agree none (some atoms) = ⊥
