@@ -134,31 +134,16 @@ module _ (w t residues atoms : List ℕ) (low end : ℕ) (hits : List (List ℕ)
         high : r .live ≤ 5
         high = rw (turned .live) (depth-high k most (isHit (valueBy w t low residues atoms to k)))
 
+        step : (found′ : ℕ) → found′ ≤ n + 1 → found′ + length (foundIn w (n + 1) end t low (r .live) to residues atoms) ≡ length hits
+            → Walking w t residues atoms low end hits (n + 1) (r .live) (r .settled) to found′
+        step found′ l e =
+            record { order = omega arith; room = i .room; kinds = split .1; depth = high; settled = turned .settled; numbers = up-more n (n + 1) to (omega arith) up; few = l; all = e }
+
         pub walk-hit : r .live ≡ 5 → Walking w t residues atoms low end hits (n + 1) (r .live) (r .settled) to (found + 1)
-        walk-hit e =
-            record {
-              order = omega arith;
-              room = i .room;
-              kinds = split .1;
-              depth = high;
-              settled = turned .settled;
-              numbers = up-more n (n + 1) to (omega arith) up;
-              few = omega (arith, i .few);
-              all = omega (arith, i .all, ap length (walk-on true (eq-eqb (r .live) 5 e)));
-            }
+        walk-hit e = step (found + 1) (omega (arith, i .few)) (omega (arith, i .all, ap length (walk-on true (eq-eqb (r .live) 5 e))))
 
         pub walk-miss : (r .live ≡ 5 → ⊥) → Walking w t residues atoms low end hits (n + 1) (r .live) (r .settled) to found
-        walk-miss e =
-            record {
-              order = omega arith;
-              room = i .room;
-              kinds = split .1;
-              depth = high;
-              settled = turned .settled;
-              numbers = up-more n (n + 1) to (omega arith) up;
-              few = omega (arith, i .few);
-              all = omega (arith, i .all, ap length (walk-on false (ne-eqb (r .live) 5 e)));
-            }
+        walk-miss e = step found (omega (arith, i .few)) (omega (arith, i .all, ap length (walk-on false (ne-eqb (r .live) 5 e))))
 
 -- ---- writing
 
