@@ -58,8 +58,8 @@ atomsIn (suc k) s n t = concatMapFrom (size k) (atomsIn k (below (suc k) n (t .0
 unfoldable pub atomsOf : Machine → List Site
 atomsOf m = concatMapFrom (size 4) (atomsIn 4 top) 0 m
 
--- change request §4: "stored atoms are then those under the start", which is a position of none to four indexes, here among branches of level k that stand
--- under s and are numbered from n on; none where there is no such position
+-- change request §4: "stored atoms are then those under the start". A start is a position of none to four indexes, here among branches of level k that stand
+-- under s and are numbered from n on; where nothing stands at it there is no list. "Hits still name all five records": a site has the numbers above it too
 unfoldable pub atomsUnder : (k : ℕ) → Site → ℕ → List ℕ → List (Branch k) → Option (List Site)
 atomsUnder k s n [] ts = some (concatMapFrom (size k) (atomsIn k s) n ts)
 atomsUnder zero s n (i ∷ is) ts = none
@@ -69,7 +69,8 @@ atomsUnder (suc k) s n (i ∷ is) ts = andThen (nth i (numbered (suc k) n ts)) (
 abbrev pub atomsFrom : List ℕ → Machine → Option (List Site)
 atomsFrom start m = atomsUnder 4 top 0 start m
 
--- "Terms of the start's own level and above stay undecided": the first kind that is known
+-- "Terms of the start's own level and above stay undecided": the first kind that is known. From a conformer its name isn't, so "Backbone and SideChain go by the
+-- atom's name alone"
 abbrev pub lowest : List ℕ → ℕ
 lowest start = suc (length start)
 

@@ -59,12 +59,14 @@ pub record Levelled (r : Words) : Type 0 where
   pub low : 1 ≤ kind r
   pub high : kind r ≤ 5
 
+-- a part whose records are there, each of one of the five kinds, below four others at most
 pub record Walkable (w : List ℕ) (p : Part) : Type 0 where
   pub within : Within (p .from) (p .end) w
   pub kinds : All Levelled (recordsIn (p .from) (p .end) w)
   pub depth : p .depth ≤ 4
   pub numbers : UpTo (p .from) (p .path)
 
+-- with a tree that was accepted
 pub record Ready (w : List ℕ) (p : Part) (t : List ℕ) : Type 0 where
   pub part : Walkable w p
   pub tree : checked (readTree t) ≡ CheckedTree.the-variants.Good
