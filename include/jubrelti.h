@@ -30,7 +30,7 @@
 
 /* The version of this header, as one number too: major * 1,000,000 + minor * 1,000 + patch. */
 #define JUBRELTI_VERSION_MAJOR 0
-#define JUBRELTI_VERSION_MINOR 6
+#define JUBRELTI_VERSION_MINOR 7
 #define JUBRELTI_VERSION_PATCH 0
 #define JUBRELTI_VERSION (JUBRELTI_VERSION_MAJOR * 1000000 + JUBRELTI_VERSION_MINOR * 1000 + JUBRELTI_VERSION_PATCH)
 
@@ -196,7 +196,7 @@ JubreltiLookup jubrelti_binary_find_atom(const uint64_t *store, size_t length, u
 /* ---- PDB lines */
 
 /* Writes the structure as PDB lines (docs/FORMATS.md, "PDB lines"): MODEL and ENDMDL around the atoms of each model, 80 columns and a
-   newline each. Bytes of the output past the text stay. */
+   newline each. Values are rounded to nearest, exact halves to the even digit. Bytes of the output past the text stay. */
 JubreltiWrite jubrelti_write_pdb(const uint64_t *JUBRELTI_RESTRICT store, size_t length, uint8_t *JUBRELTI_RESTRICT out,
                                  size_t out_length);
 

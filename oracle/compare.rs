@@ -92,9 +92,8 @@ fn main() {
     trees::compare().print("small trees in full");
     starts::compare();
     floats::compare().print("floats, each against each");
+    writing::compare_formatting(&mut Random::new(seed)).print();
     writing::compare_limits();
-    let (decimals, halfway) = writing::compare_formatting(&mut Random::new(seed));
-    println!("{decimals} decimals, in the plain reading as in Rust's own formatting, but for {halfway} that lie halfway");
     let (mut counts, mut stores) = (Counts::default(), Spoilt::default());
     let (mut reads, mut writes) = (reading::Counts::default(), writing::Counts::default());
     let random = |i: u64| Random::new(seed.wrapping_mul(1_000_003).wrapping_add(i));

@@ -1,5 +1,6 @@
-// Change request §1, "PDB lines out", read plainly: a machine's lines, and what the writer answers and leaves. It shares nothing with the
-// port. The elements' symbols are the names that the crate's own file gives them.
+// Change requests §1, "PDB lines out", and §5, "Halves to even in written numbers", read plainly: a machine's lines, and what the writer
+// answers and leaves. It shares nothing with the port. The elements' symbols are the names that the crate's own file gives them. Decimals
+// have two judges, the exact reading and Rust's own formatting, and a text is one on which both agree.
 use crate::plain::{text_of, Atom, Chain, Conformer, Machine, Model, Residue};
 use crate::port::Write;
 use pdbtbx::Element;
@@ -10,9 +11,9 @@ const TOO_SHORT: u64 = 13;
 
 // ---- decimals
 
-// "halves away from zero": what a size halfway between q and q + 1 becomes.
+// "A binary value exactly halfway goes to the even last digit": a size halfway between q and q + 1.
 fn at_half(q: u128) -> u128 {
-    q + 1
+    if q % 2 == 0 { q } else { q + 1 }
 }
 
 // The size of a finite f64 in units of 10^-places, from its mantissa and exponent; 2^112 in its place where the exponent is over 60, since
@@ -37,12 +38,22 @@ fn in_units(bits: u64, places: u32) -> u128 {
     }
 }
 
+// An f64, given by its bits, to so many places.
+type Decimal = fn(u64, u32) -> String;
+
 // "a value that rounds to zero has no minus".
-pub fn decimal(bits: u64, places: u32) -> String {
+pub fn exact(bits: u64, places: u32) -> String {
     let n = in_units(bits, places);
     let one = 10u128.pow(places);
     let minus = if bits >> 63 == 1 && n > 0 { "-" } else { "" };
     format!("{minus}{}.{:0width$}", n / one, n % one, width = places as usize)
+}
+
+// Rust's own formatting, which rounds the exact value with ties to even, without the minus that it writes before zero.
+pub fn formatted(bits: u64, places: u32) -> String {
+    let by_rust = format!("{:.*}", places as usize, f64::from_bits(bits));
+    let size = by_rust.trim_start_matches('-');
+    if size.bytes().all(|b| b == b'0' || b == b'.') { size.to_string() } else { by_rust }
 }
 
 // ---- columns
@@ -85,7 +96,7 @@ fn charge(charge: i64) -> String {
     }
 }
 
-fn atom_line(c: &Chain, r: &Residue, f: &Conformer, a: &Atom) -> Result<Line, u64> {
+fn atom_line(c: &Chain, r: &Residue, f: &Conformer, a: &Atom, decimal: Decimal) -> Result<Line, u64> {
     let v = &a.values;
     let (name, symbol) = (text_of(a.name), symbol(v.element));
     let mut line = record(if v.hetero == 1 { "HETATM" } else { "ATOM" });
@@ -106,7 +117,7 @@ fn atom_line(c: &Chain, r: &Residue, f: &Conformer, a: &Atom) -> Result<Line, u6
     Ok(line)
 }
 
-fn model_lines(m: &Model, lines: &mut Vec<Line>) -> Result<(), u64> {
+fn model_lines(m: &Model, decimal: Decimal, lines: &mut Vec<Line>) -> Result<(), u64> {
     let mut first = record("MODEL");
     first.right(11, 14, m.serial.to_string())?;
     lines.push(first);
@@ -114,7 +125,7 @@ fn model_lines(m: &Model, lines: &mut Vec<Line>) -> Result<(), u64> {
         for r in &c.residues {
             for f in &r.conformers {
                 for a in &f.atoms {
-                    lines.push(atom_line(c, r, f, a)?);
+                    lines.push(atom_line(c, r, f, a, decimal)?);
                 }
             }
         }
@@ -123,21 +134,27 @@ fn model_lines(m: &Model, lines: &mut Vec<Line>) -> Result<(), u64> {
     Ok(())
 }
 
-// The text, or 12.
-pub fn text(m: &Machine) -> Result<Vec<u8>, u64> {
+fn lines(m: &Machine, decimal: Decimal) -> Result<Vec<u8>, u64> {
     let mut lines = Vec::new();
-    m.iter().try_for_each(|model| model_lines(model, &mut lines))?;
+    m.iter().try_for_each(|model| model_lines(model, decimal, &mut lines))?;
     Ok(lines.iter().flat_map(|l| [&l.0[..], b"\n"].concat()).collect())
 }
 
-// The writer on a good store of this machine.
-pub fn write(m: &Machine, out: &mut [u8]) -> Write {
-    let written = text(m).and_then(|t| if t.len() > out.len() { Err(TOO_SHORT) } else { Ok(t) });
-    match written {
+// The text, or 12, by both judges of decimals.
+pub fn text(m: &Machine) -> Result<Vec<u8>, u64> {
+    let text = lines(m, exact);
+    assert!(text == lines(m, formatted), "the exact reading and Rust's formatting differ");
+    text
+}
+
+// The writer on a good store of a machine with this text.
+pub fn write(text: &Result<Vec<u8>, u64>, out: &mut [u8]) -> Write {
+    match text {
+        Ok(t) if t.len() > out.len() => Write { result: TOO_SHORT, length: 0 },
         Ok(t) => {
-            out[..t.len()].copy_from_slice(&t);
+            out[..t.len()].copy_from_slice(t);
             Write { result: 0, length: t.len() as u64 }
         }
-        Err(result) => Write { result, length: 0 },
+        Err(result) => Write { result: *result, length: 0 },
     }
 }

@@ -1,4 +1,4 @@
-// The port's PDB lines against the plain reading of change request §1 (oracle/text.rs), on whole texts: numbers, names and elements at and
+// The port's PDB lines against the plain reading of change requests §1 and §5 (oracle/text.rs), on whole texts: numbers, names and elements at and
 // beyond every limit, all halves that fit, random structures and stores that are spoilt.
 use crate::plain::{self, pack, Atom, Chain, Conformer, Machine, Model, Residue};
 use crate::port::{self, NewAtom, Write};
@@ -58,8 +58,9 @@ fn call(store: &[u64], length: usize, expected: impl Fn(&mut [u8]) -> Write, cou
 pub fn compare(store: &[u64], m: &Machine, counts: &mut Counts) {
     let atoms = |m: &Model| m.chains.iter().flat_map(|c| &c.residues).flat_map(|r| &r.conformers).map(|f| f.atoms.len()).sum::<usize>();
     let exact = 81 * m.iter().map(|m| 2 + atoms(m)).sum::<usize>();
+    let text = text::text(m);
     for length in [exact, exact.saturating_sub(1), exact + 1, exact + 100, 0] {
-        call(store, length, |out| text::write(m, out), counts);
+        call(store, length, |out| text::write(&text, out), counts);
     }
     counts.structures += 1;
 }
@@ -167,11 +168,15 @@ fn each_text(counts: &mut Counts) {
 
 // ---- structures
 
-// Every half that fits, at both counts of decimals.
-fn halves(counts: &mut Counts) {
+// Every value halfway at three decimals or at two that fits its columns: odd sixteenths and odd eighths.
+fn halves_that_fit() -> [Vec<u64>; 2] {
     let odd = |low: i64, high: i64, of: f64| (low..high).filter(|n| n % 2 != 0).map(move |n| (n as f64 / of).to_bits());
-    let coordinates: Vec<u64> = odd(-15_999, 160_000, 16.0).filter(|b| text::decimal(*b, 3).len() <= 8).collect();
-    let others: Vec<u64> = odd(-799, 8_000, 8.0).filter(|b| text::decimal(*b, 2).len() <= 6).collect();
+    let coordinates = odd(-15_999, 160_000, 16.0).filter(|b| text::exact(*b, 3).len() <= 8).collect();
+    [coordinates, odd(-799, 8_000, 8.0).filter(|b| text::exact(*b, 2).len() <= 6).collect()]
+}
+
+fn halves(counts: &mut Counts) {
+    let [coordinates, others] = halves_that_fit();
     let mut m = sample(NewAtom::default());
     conformer(&mut m[0]).atoms = (coordinates.chunks(3).enumerate())
         .map(|(i, c)| {
@@ -262,23 +267,34 @@ pub fn compare_random(r: &mut Random, counts: &mut Counts) {
     compare_any(&store, counts);
 }
 
-// Where a value isn't halfway, Rust's own formatting, which is exact, gives the same digits; it keeps the minus of zero. The number of
-// decimals, and of those halfway: odd eighths at two places, odd sixteenths at three.
-pub fn compare_formatting(r: &mut Random) -> (u64, u64) {
+// How many decimals were compared, how many were halfway, and how many lost the minus before zero.
+#[derive(Default)]
+pub struct Decimals {
+    all: u64,
+    halfway: u64,
+    zeros: u64,
+}
+
+impl Decimals {
+    pub fn print(&self) {
+        let Decimals { all, halfway, zeros } = self;
+        println!("{all} decimals, {halfway} of them halfway: Rust's formatting differs from the exact reading by the minus of {zeros} zeros alone");
+    }
+}
+
+// The judges of decimals against each other, before any text is judged.
+pub fn compare_formatting(r: &mut Random) -> Decimals {
     let random = (0..1_000_000).map(|_| r.word() & !(0x7ff << 52) | (963 + r.below(90)) << 52);
-    let (mut all, mut halfway) = (0, 0);
-    for x in floats().into_iter().chain(random).map(f64::from_bits).filter(|x| x.abs() < 2f64.powi(113)) {
-        for places in [2, 3] {
-            all += 1;
-            if (x * 2f64.powi(places + 1) % 2.0).abs() == 1.0 {
-                halfway += 1;
-                continue;
-            }
-            let by_rust = format!("{x:.*}", places as usize);
-            let unsigned = by_rust.trim_start_matches('-');
-            let expected = if unsigned.bytes().all(|b| b == b'0' || b == b'.') { unsigned } else { &by_rust };
-            assert_eq!(text::decimal(x.to_bits(), places as u32), expected, "{x} to {places} places");
+    let mut counts = Decimals::default();
+    for bits in floats().into_iter().chain(random).chain(halves_that_fit().concat()) {
+        let x = f64::from_bits(bits);
+        for places in [2, 3].into_iter().filter(|_| x.abs() < 2f64.powi(113)) {
+            let formatted = text::formatted(bits, places);
+            assert_eq!(text::exact(bits, places), formatted, "{x} to {places} places");
+            counts.all += 1;
+            counts.halfway += ((x * 2f64.powi(places as i32 + 1) % 2.0).abs() == 1.0) as u64;
+            counts.zeros += (format!("{x:.*}", places as usize) != formatted) as u64;
         }
     }
-    (all, halfway)
+    counts
 }

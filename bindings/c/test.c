@@ -76,7 +76,7 @@ static void build(void) {
     expect("an atom needs a model", add(1, "N", 7, 0.0).result, JUBRELTI_NO_POSITION);
     expect("add model 1", jubrelti_add_model(store, LENGTH, 1).result, JUBRELTI_DONE);
     expect("add N", add(1, "N", 7, 1.5).result, JUBRELTI_DONE);
-    expect("add XX without an element", add(2, "XX", 0, 2.5).result, JUBRELTI_DONE);
+    expect("add XX without an element", add(2, "XX", 0, 2.0625).result, JUBRELTI_DONE);
     expect("the store is full", add(3, "C", 6, 3.5).result, JUBRELTI_NO_CAPACITY);
     expect("check", jubrelti_check(store, LENGTH), JUBRELTI_DONE);
     expect("x of record 4", store[4 * 12 + 3], jubrelti_bits(1.5));
@@ -114,6 +114,7 @@ static void lines(void) {
     expect("write lines", written.result, JUBRELTI_DONE);
     expect("their bytes", written.length, TEXT);
     expect("the line of N", memcmp(text + 81, n, 81) == 0, 1);
+    expect("x of XX, a half, has the even digit", memcmp(text + 2 * 81 + 30, "   2.062", 8) == 0, 1);
     expect("the last line", memcmp(text + 3 * 81, end, 81) == 0, 1);
     expect("the byte behind it stays", text[TEXT], 0xff);
     free(text);

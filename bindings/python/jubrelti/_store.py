@@ -270,7 +270,7 @@ class Store(Editing[Edited]):
 
     def write_pdb(self) -> str:
         """The structure as PDB lines: MODEL and ENDMDL around the atoms of each model, 80 columns and a newline each (docs/FORMATS.md,
-        "PDB lines").
+        "PDB lines"). Values are rounded to nearest, exact halves to the even digit.
         """
         counts = self.counts
         # 81 bytes for each atom, and for each model twice.

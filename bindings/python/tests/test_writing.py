@@ -21,6 +21,12 @@ class Writing(unittest.TestCase):
         self.assertEqual(lines[2], "HETATM    2 CA    CA A   8       1.250   0.000   0.000  1.00  0.00          CA2+")
         self.assertEqual([line[:14].rstrip() for line in lines[3:]], ["ENDMDL", "MODEL        2", "ENDMDL"])
 
+    def test_halves_go_to_the_even_digit(self):
+        store = Store()
+        store.add_model(1)
+        store.add_atom(0, NewAtom(1, "CA", x=0.0625, y=-0.1875, z=-0.3125, occupancy=0.125, b_factor=-0.375), "A", (1, None), ("GLY", None))
+        self.assertEqual(store.write_pdb().splitlines()[1][30:66], "   0.062  -0.188  -0.312  0.12 -0.38")
+
     def test_no_model(self):
         self.assertEqual(Store().write_pdb(), "")
 

@@ -239,7 +239,7 @@ impl<W: AsRef<[u64]>> Store<W> {
     }
 
     /// The structure as PDB lines: MODEL and ENDMDL around the atoms of each model, 80 columns and a newline each
-    /// (`docs/FORMATS.md`, "PDB lines").
+    /// (`docs/FORMATS.md`, "PDB lines"). Values are rounded to nearest, exact halves to the even digit.
     ///
     /// ```
     /// use jubrelti::*;

@@ -27,6 +27,17 @@ fn lines() {
 }
 
 #[test]
+fn halves_go_to_the_even_digit() {
+    let mut model = ModelBuilder::new(1);
+    let halves = NewAtom { x: 0.0625, y: -0.1875, z: -0.3125, occupancy: 0.125, b_factor: -0.375, ..atom(1, "CA", Element::C) };
+    model.add_atom(halves, "A", (1, None), ("GLY", None));
+    let mut store = Store::new();
+    store.add_model(model).unwrap();
+    let text = store.write_pdb().unwrap();
+    assert_eq!(&text[81 + 30..81 + 66], "   0.062  -0.188  -0.312  0.12 -0.38");
+}
+
+#[test]
 fn without_models() {
     assert_eq!(Store::new().write_pdb().unwrap(), "");
     let mut store = store();

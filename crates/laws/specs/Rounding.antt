@@ -1,49 +1,59 @@
--- Rounding to units: equal fractions round alike, so a float's value may be given by any fraction. Assumes nothing.
-use Prim.Native.Nat.{ℕ, suc, _+_, _*_, _/_, _%_, _<_, _≤_}
-use mathlib.Core.Path.{_≡_, refl, sym, ap, _∙_}
-use mathlib.Core.Bool.{Bool, true, false, cond}
-use native.Mathlib.Nat.{le-refl, le-suc, mul-comm, mul-right-comm, add-mul, mul-le-mul-right, mul-lt-mul-of-pos-right, div-add-mod', div-eq-of-lt, mod-eq-of-lt}
+-- Rounding to units is IEEE 754's rounding to nearest: equal fractions round alike, so a float's value may be given by any fraction. Assumes nothing.
+use Prim.Native.Nat.{ℕ, zero, suc, _+_, _*_, _/_, _%_, _<_, _≤_, compare, Ordering, Ordering·lt, Ordering·eq, Ordering·gt}
+use mathlib.Core.Path.{_≡_, refl, sym, ap, _∙_, subst}
+use mathlib.Core.Bool.{Bool, true, cond}
+use native.Mathlib.Nat.{le-of-eq, le-of-lt, add-zero, mul-right-comm, div-eq-of-lt, mod-eq-of-lt}
 use native.Mathlib.Omega.{arith}
-use lib.Dec.{ltb}
-use lib.Ieee.{Float, nan, inf, fin, up, down}
+use native.Mathlib.Numerals.{add-one}
+use lib.Arith.{lt-of-le-ne}
+use lib.Dec.{ltb, isLe, isEq}
+use lib.Ieee.{Float, nan, inf, fin, nearest, up, down}
 use lib.Ieee.Fits.{down-pos}
 use lib.Ieee.Exact.{HasValue}
-use lib.Ieee.Nearest.{div-same}
-use borrow.Author.Tests.{ltb-true, ltb-false, lt-ltb, le-ltb}
+use lib.Ieee.Nearest.{closest, closest-same, nearest-ge}
+use borrow.Author.Tests.{leb-true, leb-false, eqb-true, eqb-false, lt-ltb, le-ltb}
 use Rattle.machine.specs.Rounding.{atHalf, nearestWhole, inUnits}
 
-ltb-scale : (x y k : ℕ) → 0 < k → ltb (x * k) (y * k) ≡ ltb x y
-ltb-scale x y k K = go (ltb x y) refl
+by-order : (P : Ordering → Type 0) (r b : ℕ) → (r < b → P Ordering·lt) → (r ≡ b → P Ordering·eq) → (b < r → P Ordering·gt) → P (compare r b)
+by-order P r b below same above = go (compare r b) refl
   where
-    go : (b : Bool) → ltb x y ≡ b → ltb (x * k) (y * k) ≡ b
-    go true e = lt-ltb (x * k) (y * k) (mul-lt-mul-of-pos-right (ltb-true x y e) K)
-    go false e = le-ltb (x * k) (y * k) (mul-le-mul-right k (ltb-false x y e))
+    go : (o : Ordering) → compare r b ≡ o → P o
+    go Ordering·lt e = below (lt-of-le-ne (leb-true r b (ap isLe e)) (eqb-false r b (ap isEq e)))
+    go Ordering·eq e = same (eqb-true r b (ap isEq e))
+    go Ordering·gt e = above (leb-false r b (ap isLe e))
 
--- with the same whole part taken off both, the remainders are in the fractions' proportion
-rests : (a b c d w : ℕ) → a / b ≡ w → c / d ≡ w → a * d ≡ c * b → a % b * d ≡ c % d * b
-rests a b c d w e f h =
-    let x : w * b * d + a % b * d ≡ a * d = sym (add-mul (w * b) (a % b) d) ∙ ap (λ (z : ℕ). z * d) (ap (λ (z : ℕ). z * b + a % b) (sym e) ∙ div-add-mod' a b) in
-    let y : w * d * b + c % d * b ≡ c * b = sym (add-mul (w * d) (c % d) b) ∙ ap (λ (z : ℕ). z * b) (ap (λ (z : ℕ). z * d + c % d) (sym f) ∙ div-add-mod' c d) in
-    let s : w * b * d ≡ w * d * b = mul-right-comm w b d in
-    omega arith
+-- "for any count of decimals": at every fraction it is the rounding by which IEEE 754 rounds each operation, to nearest with ties to even
+pub nearest-ieee : (a b : ℕ) → nearestWhole a b ≡ closest a b
+unfolding nearestWhole
+nearest-ieee a b =
+    let q = a / b in
+    let r = a % b * 2 in
+    let first : Bool → ℕ = λ t. cond t q (cond (ltb b r) (suc q) (atHalf q)) in
+    let second : Bool → ℕ = λ t. cond t (suc q) (atHalf q) in
+    by-order (λ o. nearestWhole a b ≡ nearest q o) r b
+    (λ h. ap first (lt-ltb r b h))
+    (λ e. ap first (le-ltb r b (le-of-eq (sym e))) ∙ ap second (le-ltb b r (le-of-eq e)))
+    (λ h. ap first (le-ltb r b (le-of-lt h)) ∙ ap second (lt-ltb b r h))
+
+-- at a half the quotient's own last digit tells, so one comparison decides
+pub nearest-once : (a b : ℕ) → nearestWhole a b ≡ cond (ltb b (a % b * 2 + a / b % 2)) (suc (a / b)) (a / b)
+nearest-once a b =
+    let q = a / b in
+    let r = a % b * 2 in
+    let next : Bool → ℕ = λ t. cond t (suc q) q in
+    nearest-ieee a b
+    ∙ by-order (λ o. nearest q o ≡ cond (ltb b (r + q % 2)) (suc q) q) r b
+    (λ h. ap next (sym (le-ltb b (r + q % 2) (omega arith))))
+    (λ e. half q r b e (q % 2) (omega arith))
+    (λ h. ap next (sym (lt-ltb b (r + q % 2) (omega arith))))
+  where
+    half : (q r b : ℕ) → r ≡ b → (p : ℕ) → p ≤ 1 → q + p ≡ cond (ltb b (r + p)) (suc q) q
+    half q r b e zero h = add-zero q ∙ ap (λ (t : Bool). cond t (suc q) q) (sym (le-ltb b (r + 0) (omega arith)))
+    half q r b e (suc zero) h = add-one q ∙ ap (λ (t : Bool). cond t (suc q) q) (sym (lt-ltb b (r + 1) (omega arith)))
+    half q r b e (suc (suc p)) h = absurd (omega arith)
 
 pub nearest-same : (a b c d : ℕ) → 0 < b → 0 < d → a * d ≡ c * b → nearestWhole a b ≡ nearestWhole c d
-unfolding nearestWhole
-nearest-same a b c d B D h =
-    let q : a / b ≡ c / d = div-same a b c d B D h in
-    let r : a % b * d ≡ c % d * b = rests a b c d (c / d) q refl h in
-    let cross : a % b * 2 * d ≡ c % d * 2 * b = mul-right-comm (a % b) 2 d ∙ ap (λ (z : ℕ). z * 2) r ∙ mul-right-comm (c % d) b 2 in
-    let lo : ltb (a % b * 2) b ≡ ltb (c % d * 2) d =
-    sym (ltb-scale (a % b * 2) b d D)
-    ∙ ap (λ (z : ℕ). ltb z (b * d)) cross
-    ∙ ap (λ (z : ℕ). ltb (c % d * 2 * b) z) (mul-comm b d)
-    ∙ ltb-scale (c % d * 2) d b B in
-    let hi : ltb b (a % b * 2) ≡ ltb d (c % d * 2) =
-    sym (ltb-scale b (a % b * 2) d D)
-    ∙ ap (λ (z : ℕ). ltb (b * d) z) cross
-    ∙ ap (λ (z : ℕ). ltb z (c % d * 2 * b)) (mul-comm b d)
-    ∙ ltb-scale d (c % d * 2) b B in
-    λ i. cond (lo i) (q i) (cond (hi i) (suc (q i)) (atHalf (q i)))
+nearest-same a b c d B D h = nearest-ieee a b ∙ closest-same a b c d B D h ∙ sym (nearest-ieee c d)
 
 -- below a half
 pub nearest-none : (a b : ℕ) → a * 2 < b → nearestWhole a b ≡ 0
@@ -54,18 +64,8 @@ nearest-none a b h =
     let t : ltb (a % b * 2) b ≡ true = ap (λ (z : ℕ). ltb (z * 2) b) r ∙ lt-ltb (a * 2) b h in
     ap (λ (t : Bool). cond t (a / b) (cond (ltb b (a % b * 2)) (suc (a / b)) (atHalf (a / b)))) t ∙ div-eq-of-lt l
 
--- all that the half rule must be: not below the quotient
-half-above : (q : ℕ) → q ≤ atHalf q
-half-above q = omega arith
-
 pub quotient-below : (a b : ℕ) → a / b ≤ nearestWhole a b
-unfolding nearestWhole
-quotient-below a b = go (ltb (a % b * 2) b) (ltb b (a % b * 2))
-  where
-    go : (s t : Bool) → a / b ≤ cond s (a / b) (cond t (suc (a / b)) (atHalf (a / b)))
-    go true t = le-refl (a / b)
-    go false true = le-suc (a / b)
-    go false false = half-above (a / b)
+quotient-below a b = subst (λ (z : ℕ). a / b ≤ z) (sym (nearest-ieee a b)) (nearest-ge (a / b) (compare (a % b * 2) b))
 
 -- a float whose value is the fraction a / c
 pub units-of-value : (unit : ℕ) (v : Float) (s : Bool) (a c : ℕ) → 0 < c → HasValue v s a c → inUnits unit v ≡ nearestWhole (a * unit) c

@@ -13,7 +13,7 @@ use Rattle.machine.specs.Record.{Words, words, fieldsOf, goodFields, goo
 use Rattle.machine.specs.Store.{Machine, inOrder, goodLayout, sections, group, readStore}
 use Rattle.machine.specs.Query.{packedName}
 use Rattle.machine.specs.Program.{digits, newline}
-use Rattle.machine.specs.Rounding.{nearestWhole, inUnits}
+use Rattle.machine.specs.Rounding.{nearestWhole, inUnits, rounded}
 use Rattle.machine.specs.Write.{storeText, writeRun}
 use Rattle.machine.specs.Lines.{Column, columnText, fitting, lineOf, lastDigits, pointed, fixed, chargeText, AtomLine, nameColumns, placeColumns, valueColumns, elementColumns, atomColumns, modelColumns, entryLines, entryOf, machineText}
 
@@ -74,6 +74,10 @@ tooWide cs = concatMap columnText (filter (λ c. not (fitting c)) cs)
 abbrev line : String → List ℕ
 line s = bytes s ++ newline
 
+-- each of some f64s to d decimals, and a blank
+abbrev decimals : ℕ → List ℕ → List ℕ
+decimals d = concatMap (λ b. fixed d b ++ bytes " ")
+
 -- ---- models
 
 -- a model with an empty residue, an atom and an empty chain, and a model without chains
@@ -105,8 +109,20 @@ modelSeven =
 
 unfoldable pub lineExamples : List LineExample
 lineExamples =
-    example (written zinc) (line "HETATM   12 ZN    ZN A  -7B      0.063  -0.0639999.999  0.13  0.00          ZN2+")
+    example (written zinc) (line "HETATM   12 ZN    ZN A  -7B      0.062  -0.0629999.999  0.12  0.00          ZN2+")
     ∷ example (written iron) (line "HETATM99999 FE12DHEM b1234C     -1.500  12.345   0.000  1.00 20.00          FE3-")
+    -- halfway, at two decimals and at three: 0.125, 0.375, 0.625, -0.125, -0.375 and 0.0625, 0.1875, 0.3125, -0.0625, -0.1875
+    ∷ example (decimals 2 (0x3fc0_0000_0000_0000 ∷ 0x3fd8_0000_0000_0000 ∷ 0x3fe4_0000_0000_0000 ∷ 0xbfc0_0000_0000_0000 ∷ 0xbfd8_0000_0000_0000 ∷ []))
+    (bytes "0.12 0.38 0.62 -0.12 -0.38 ")
+    ∷ example (decimals 3 (0x3fb0_0000_0000_0000 ∷ 0x3fc8_0000_0000_0000 ∷ 0x3fd4_0000_0000_0000 ∷ 0xbfb0_0000_0000_0000 ∷ 0xbfc8_0000_0000_0000 ∷ []))
+    (bytes "0.062 0.188 0.312 -0.062 -0.188 ")
+    -- not exactly halfway: the f64s next above 0.125 and below 0.375, and that of 0.015, which lies below it; that of 0.0025, which lies above
+    ∷ example (decimals 2 (0x3fc0_0000_0000_0001 ∷ 0x3fd7_ffff_ffff_ffff ∷ 0x3f8e_b851_eb85_1eb8 ∷ [])) (bytes "0.13 0.37 0.01 ")
+    ∷ example (decimals 3 (0x3f64_7ae1_47ae_147b ∷ [])) (bytes "0.003 ")
+    -- other counts: 0.5, 1.5 and 2.5 as whole numbers, 0.25 and 0.75 in tenths, 0.03125 and 0.09375 to four decimals
+    ∷ example (map (rounded 0) (0x3fe0_0000_0000_0000 ∷ 0x3ff8_0000_0000_0000 ∷ 0x4004_0000_0000_0000 ∷ [])) (0 ∷ 2 ∷ 2 ∷ [])
+    ∷ example (map (rounded 1) (0x3fd0_0000_0000_0000 ∷ 0x3fe8_0000_0000_0000 ∷ [])) (2 ∷ 8 ∷ [])
+    ∷ example (map (rounded 4) (0x3fa0_0000_0000_0000 ∷ 0x3fb8_0000_0000_0000 ∷ [])) (312 ∷ 938 ∷ [])
     -- a name's first column, by its length and its element's symbol
     ∷ example (written (named "N" 7)) (line "ATOM      0  N   ALA A   1       0.000   0.000   0.000  0.00  0.00           N  ")
     ∷ example (written (named "CA" 20)) (line "ATOM      0 CA   ALA A   1       0.000   0.000   0.000  0.00  0.00          CA  ")

@@ -1,12 +1,12 @@
--- Change request §1, "PDB lines out": f64 values rounded to decimals. Assumes nothing.
-use Prim.Native.Nat.{ℕ, suc, _*_, _/_, _%_, _^_}
+-- Change requests §1, "PDB lines out", and §5, "Halves to even in written numbers": f64 values rounded to decimals. Assumes nothing.
+use Prim.Native.Nat.{ℕ, suc, _+_, _*_, _/_, _%_, _^_}
 use mathlib.Core.Bool.{cond}
 use lib.Dec.{ltb}
 use lib.Ieee.{Float, nan, inf, fin, binary64, up, down, ofBits}
 
--- "halves away from zero": what a value exactly halfway between q and q + 1 becomes
+-- "A binary value exactly halfway goes to the even last digit": the even one of q and q + 1
 abbrev pub atHalf : ℕ → ℕ
-atHalf q = suc q
+atHalf q = q + q % 2
 
 -- the whole number nearest to a / b: the quotient or the next, by how twice the remainder compares with the divisor
 unfoldable pub nearestWhole : ℕ → ℕ → ℕ
@@ -21,6 +21,6 @@ inUnits unit nan = 0
 inUnits unit (inf s) = 0
 inUnits unit (fin s m e) = nearestWhole (m * up e * unit) (down e)
 
--- an f64, given by its bits, to d decimals: this many times 10 ^ -d, its sign aside
+-- "for any count of decimals": an f64, given by its bits, to d of them is this many times 10 ^ -d, its sign aside
 abbrev pub rounded : ℕ → ℕ → ℕ
 rounded d b = inUnits (10 ^ d) (ofBits binary64 b)

@@ -11,9 +11,9 @@ use lib.Ieee.{nan, inf, binary64, ofBits, odd, ofFields}
 use lib.Ieee.Exact.{HasValue, odd-sign}
 use borrow.Author.Tests.{ltb-true, lt-ltb, le-ltb, ne-eqb}
 use Rattle.machine.specs.Record.{finite}
-use Rattle.machine.specs.Rounding.{atHalf, nearestWhole, inUnits}
+use Rattle.machine.specs.Rounding.{nearestWhole, inUnits}
 use Rattle.laws.specs.Floats.{finite-below}
-use Rattle.laws.specs.Rounding.{nearest-same, nearest-none, quotient-below, units-of-value}
+use Rattle.laws.specs.Rounding.{nearest-once, nearest-same, nearest-none, quotient-below, units-of-value}
 
 -- ---- power
 
@@ -25,27 +25,14 @@ some-power k h = subst (λ (z : ℕ). 1 ≤ z) (sym (shifted k h)) (pow-pos k)
 
 -- ---- nearest_whole
 
-pub lower : (a k u : ℕ) → u ≡ 2 ^ k → a % u * 2 < u → a / u ≡ nearestWhole a (2 ^ k)
-unfolding nearestWhole
-lower a k u e h =
-    ap (λ (t : Bool). cond t (a / u) (cond (ltb u (a % u * 2)) (suc (a / u)) (atHalf (a / u)))) (sym (lt-ltb (a % u * 2) u h))
-    ∙ ap (nearestWhole a) e
+next : (a k u : ℕ) → u ≡ 2 ^ k → cond (ltb u (a % u * 2 + a / u % 2)) (suc (a / u)) (a / u) ≡ nearestWhole a (2 ^ k)
+next a k u e = sym (nearest-once a u) ∙ ap (nearestWhole a) e
 
-pub upper : (a k u : ℕ) → u ≡ 2 ^ k → u < a % u * 2 → a / u + 1 ≡ nearestWhole a (2 ^ k)
-unfolding nearestWhole
-upper a k u e h =
-    add-one (a / u)
-    ∙ ap (λ (t : Bool). cond t (suc (a / u)) (atHalf (a / u))) (sym (lt-ltb u (a % u * 2) h))
-    ∙ ap (λ (t : Bool). cond t (a / u) (cond (ltb u (a % u * 2)) (suc (a / u)) (atHalf (a / u)))) (sym (le-ltb (a % u * 2) u (omega arith)))
-    ∙ ap (nearestWhole a) e
+pub stays : (a k u : ℕ) → u ≡ 2 ^ k → a % u * 2 + a / u % 2 ≤ u → a / u ≡ nearestWhole a (2 ^ k)
+stays a k u e h = ap (λ (t : Bool). cond t (suc (a / u)) (a / u)) (sym (le-ltb u (a % u * 2 + a / u % 2) h)) ∙ next a k u e
 
-pub halfway : (a k u r : ℕ) → u ≡ 2 ^ k → u ≤ a % u * 2 → a % u * 2 ≤ u → r ≡ atHalf (a / u) → r ≡ nearestWhole a (2 ^ k)
-unfolding nearestWhole
-halfway a k u r e h l f =
-    f
-    ∙ ap (λ (t : Bool). cond t (suc (a / u)) (atHalf (a / u))) (sym (le-ltb u (a % u * 2) l))
-    ∙ ap (λ (t : Bool). cond t (a / u) (cond (ltb u (a % u * 2)) (suc (a / u)) (atHalf (a / u)))) (sym (le-ltb (a % u * 2) u h))
-    ∙ ap (nearestWhole a) e
+pub goes-up : (a k u : ℕ) → u ≡ 2 ^ k → u < a % u * 2 + a / u % 2 → a / u + 1 ≡ nearestWhole a (2 ^ k)
+goes-up a k u e h = add-one (a / u) ∙ ap (λ (t : Bool). cond t (suc (a / u)) (a / u)) (sym (lt-ltb u (a % u * 2 + a / u % 2) h)) ∙ next a k u e
 
 pub rest-fits : (a u : ℕ) → a < 9223372036854775808 → a % u * 2 < 18446744073709551616
 rest-fits a u h = let l = mod-le a u in omega arith

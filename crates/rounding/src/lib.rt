@@ -4,18 +4,10 @@ ghost use mathlib.Core.Bool.{true};
 ghost use Prim.Native.Nat.{_^_, _≤_, _<_, min};
 ghost use lib.Ieee.{binary64, ofBits};
 ghost use Rattle.machine.specs.Record.{finite};
-ghost use Rattle.machine.specs.Rounding.{atHalf, nearestWhole, inUnits};
+ghost use Rattle.machine.specs.Rounding.{nearestWhole, inUnits};
 
 // The first number of units that no columns hold.
 pub const WIDE: u64 = 10_000_000;
-
-// "halves away from zero"
-fn at_half(q: u64) -> u64
-    requires { ⌜ q < 0x8000_0000_0000_0000 ⌝ }
-    ensures { λ r. ⌜ r ≡ atHalf q ⌝ }
-{
-    q + 1
-}
 
 fn power(k: u64) -> u64
     requires { ⌜ k ≤ 63 ⌝ }
@@ -24,7 +16,8 @@ fn power(k: u64) -> u64
     1u64 << k
 }
 
-// The whole number nearest to a / 2^k.
+// The whole number nearest to a / 2^k. "A binary value exactly halfway goes to the even last digit": an odd quotient adds one to twice the
+// rest, which decides at a half alone. So one comparison rounds, and no branch is mispredicted.
 fn nearest_whole(a: u64, k: u64) -> u64
     requires { ⌜ (k ≤ 63) × (a < 0x8000_0000_0000_0000) ⌝ }
     ensures { λ r. ⌜ r ≡ nearestWhole a (2 ^ k) ⌝ }
@@ -32,13 +25,7 @@ fn nearest_whole(a: u64, k: u64) -> u64
     let unit = power(k);
     let q = a / unit;
     let twice = (a % unit) * 2;
-    if twice < unit {
-        return q;
-    }
-    if unit < twice {
-        return q + 1;
-    }
-    at_half(q)
+    if unit < twice + q % 2 { q + 1 } else { q }
 }
 
 // The size of an f64 in units of 1 / unit, rounded to a whole number where that is below WIDE; else WIDE. A value whose exponent's
