@@ -1,5 +1,5 @@
-// The port's PDB lines against the plain reading of change requests §1 and §5 (oracle/text.rs), on whole texts: numbers, names and elements at and
-// beyond every limit, all halves that fit, random structures and stores that are spoilt.
+// The port's PDB lines against the plain reading of change requests §1 and §5 (oracle/text.rs), on whole texts: numbers, names and
+// elements at and beyond every limit, all halves that fit, random structures and stores that are spoilt.
 use crate::plain::{self, pack, Atom, Chain, Conformer, Machine, Model, Residue};
 use crate::port::{self, NewAtom, Write};
 use crate::random::Random;

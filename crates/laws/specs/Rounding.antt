@@ -14,6 +14,7 @@ use lib.Ieee.Nearest.{closest, closest-same, nearest-ge}
 use borrow.Author.Tests.{leb-true, leb-false, eqb-true, eqb-false, lt-ltb, le-ltb}
 use Rattle.machine.specs.Rounding.{atHalf, nearestWhole, inUnits}
 
+-- by cases on how two numbers compare
 by-order : (P : Ordering → Type 0) (r b : ℕ) → (r < b → P Ordering·lt) → (r ≡ b → P Ordering·eq) → (b < r → P Ordering·gt) → P (compare r b)
 by-order P r b below same above = go (compare r b) refl
   where
