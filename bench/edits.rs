@@ -1,31 +1,45 @@
 // Single edits of the largest store, the port and the crate in one run. The port's times include its layout check, which is given apart.
 use super::store::{self, AtomAt};
 use super::{additions, check, nodes, port, structure};
-use pdbtbx::{Model, Search, Term, PDB};
+use pdbtbx::{Element, Model, Search, Term, PDB};
 use port::Call;
 use std::hint::black_box;
 
 pub struct Edit {
     pub name: &'static str,
+    // Made before it, untimed.
+    before: Option<Box<Edit>>,
     call: Call,
     on_crate: Box<dyn Fn(&mut Model)>,
 }
 
-fn add(name: &'static str, like: &AtomAt) -> Edit {
-    let new = AtomAt { serial: 80_001, name: "CA", element: 6, ..like.clone() };
-    Edit { name, call: additions::call(&new), on_crate: Box::new(move |m| structure::add(m, structure::atom(&new), &new)) }
+fn edit(name: &'static str, call: Call, on_crate: impl Fn(&mut Model) + 'static) -> Edit {
+    Edit { name, before: None, call, on_crate: Box::new(on_crate) }
 }
 
-fn edit(name: &'static str, call: Call, on_crate: impl Fn(&mut Model) + 'static) -> Edit {
-    Edit { name, call, on_crate: Box::new(on_crate) }
+fn add(name: &'static str, atom: &'static str, element: u64, like: &AtomAt) -> Edit {
+    let new = AtomAt { serial: 80_001, name: atom, element, ..like.clone() };
+    edit(name, additions::call(&new), move |m| structure::add(m, structure::atom(&new), &new))
+}
+
+// Of an atom that is added behind the last; the crate guesses no element from its name.
+fn set_element(name: &'static str, residues: u64, last: &AtomAt) -> Edit {
+    let [chain, residue, atom] = [store::CHAINS - 1, residues - 1, store::ATOMS];
+    let set = edit(name, Call::SetElement([0, chain, residue, 0, atom], 8), move |m| {
+        let residue = m.chain_mut(chain as usize).unwrap().residue_mut(residue as usize).unwrap();
+        let atom = residue.conformer_mut(0).unwrap().atom_mut(atom as usize).unwrap();
+        assert!(atom.element().is_none());
+        atom.set_element(Element::O);
+    });
+    Edit { before: Some(Box::new(add("", "XX", 0, last))), ..set }
 }
 
 pub fn edits(residues: u64) -> Vec<Edit> {
     let atoms = store::atoms(residues);
     let ca = || Search::Single(Term::AtomName("CA".into()));
     vec![
-        add("add_atom, to the last residue", atoms.last().unwrap()),
-        add("add_atom, to the first residue", &atoms[0]),
+        add("add_atom, to the last residue", "CA", 6, atoms.last().unwrap()),
+        add("add_atom, to the first residue", "CA", 6, &atoms[0]),
         edit("remove_chain, the first", Call::RemoveChain([0, 0]), |m| drop(m.remove_chain(0))),
         edit("remove_atom, the first", Call::RemoveAtom([0; 5]), |m| {
             m.chain_mut(0).unwrap().residue_mut(0).unwrap().conformer_mut(0).unwrap().remove_atom(0)
@@ -39,18 +53,24 @@ pub fn edits(residues: u64) -> Vec<Edit> {
             let search = ca();
             m.remove_atoms_by(|a| search.add_atom_info(a).complete() == Some(true));
         }),
+        set_element("set_element, of the last atom", residues, atoms.last().unwrap()),
     ]
 }
 
 // The least times of the port and the crate in nanoseconds; both leave as many atoms.
 pub fn times(words: &[u64], pdb: &PDB, edit: &Edit) -> (f64, f64) {
+    let (mut words, mut pdb) = (words.to_vec(), pdb.clone());
+    if let Some(before) = &edit.before {
+        assert_eq!(port::edit(&mut words, &before.call).result, 0);
+        (before.on_crate)(pdb.model_mut(0).unwrap());
+    }
     let mut removed = 0;
     let port = store::least_on(
         20,
-        || words.to_vec(),
+        || words.clone(),
         |w| {
             let e = port::edit(w, &edit.call);
-            assert_eq!(e.result, 0);
+            assert_eq!((e.result, e.found), (0, 1));
             removed = e.removed as usize;
         },
     );

@@ -4,6 +4,7 @@ use pdbtbx::{Atom, Model, PDB};
 
 pub fn symbol(element: u64) -> &'static str {
     match element {
+        0 => "",
         1 => "H",
         6 => "C",
         7 => "N",

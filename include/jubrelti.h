@@ -30,7 +30,7 @@
 
 /* The version of this header, as one number too: major * 1,000,000 + minor * 1,000 + patch. */
 #define JUBRELTI_VERSION_MAJOR 0
-#define JUBRELTI_VERSION_MINOR 7
+#define JUBRELTI_VERSION_MINOR 8
 #define JUBRELTI_VERSION_PATCH 0
 #define JUBRELTI_VERSION (JUBRELTI_VERSION_MAJOR * 1000000 + JUBRELTI_VERSION_MINOR * 1000 + JUBRELTI_VERSION_PATCH)
 
@@ -57,7 +57,8 @@ enum {
     JUBRELTI_TREE_NODE = 4,           /* a node has an unknown code or a bad parameter */
     JUBRELTI_NO_POSITION = 5,         /* nothing stands at the position */
     JUBRELTI_BAD_IDENTIFIER = 6,      /* a bad chain id */
-    JUBRELTI_BAD_VALUE = 7,           /* a float that isn't finite, an element above 118, hetero above 1 */
+    JUBRELTI_BAD_VALUE = 7,           /* a float that isn't finite, an element above 118, hetero above 1; where an element is
+                                         set, 0 too */
     JUBRELTI_NO_CAPACITY = 8,         /* the records needed exceed the store's capacity */
     JUBRELTI_JOIN_WITH_ITSELF = 9,    /* both positions of a join are the same */
     JUBRELTI_SHORT_OUTPUT = 10,       /* the output is shorter than five words for each hit */
@@ -108,7 +109,7 @@ enum {
     /* bindings/tables: end of codes */
 };
 
-/* found: 1, but 0 where a removal by id finds none. removed: how many atoms went. */
+/* found: 1, but 0 where a removal by id finds none, and where jubrelti_set_element finds an element. removed: how many atoms went. */
 typedef struct {
     uint64_t result;
     uint64_t found;
@@ -252,6 +253,11 @@ JubreltiEdit jubrelti_join_conformers(uint64_t *store, size_t length, uint64_t m
                                       uint64_t conformer, uint64_t second_model, uint64_t second_chain, uint64_t second_residue,
                                       uint64_t second_conformer);
 
+/* Sets an atom's missing element, 1 to 118. Where the atom has one nothing changes, and found is 0. The hits of a tree stay what they
+   were, or lose this atom alone. */
+JubreltiEdit jubrelti_set_element(uint64_t *store, size_t length, uint64_t model, uint64_t chain, uint64_t residue,
+                                  uint64_t conformer, uint64_t atom, uint64_t element);
+
 /* ---- a list of edits */
 
 /* Codes of the edits in a list; docs/FORMATS.md has the words of each. */
@@ -271,7 +277,8 @@ enum {
     JUBRELTI_JOIN_MODELS = 13,
     JUBRELTI_JOIN_CHAINS = 14,
     JUBRELTI_JOIN_RESIDUES = 15,
-    JUBRELTI_JOIN_CONFORMERS = 16
+    JUBRELTI_JOIN_CONFORMERS = 16,
+    JUBRELTI_SET_ELEMENT = 17
 };
 
 typedef struct {
@@ -384,8 +391,8 @@ static const struct {
     {JUBRELTI_NO_POSITION, "nothing stands at this position; count from 0, from the model down, in the structure as it is now"},
     {JUBRELTI_BAD_IDENTIFIER, "the chain id is bad; give it 1 to 8 printable ASCII characters, not counting spaces at its ends"},
     {JUBRELTI_BAD_VALUE,
-     "a coordinate, the occupancy or the B-factor is infinite or not a number, the element is over 118, or hetero is over 1; give "
-     "finite numbers, and 0 for a missing element"},
+     "a coordinate, the occupancy or the B-factor is infinite or not a number, the element is over 118, or 0 where one is set, or "
+     "hetero is over 1; give finite numbers, and 0 for the missing element of a new atom alone"},
     {JUBRELTI_NO_CAPACITY,
      "the store has no room for the records needed; copy it into more words, or use a store that grows, up to 100,000 records"},
     {JUBRELTI_JOIN_WITH_ITSELF, "both positions of the join are the same; give two different ones"},

@@ -1,6 +1,7 @@
 // compare [SEED] [LISTS] [READER]: the port beside pdbtbx's own files and a plain reading of document 01: small texts, bad names, trees,
-// starts and floats in full, then random lists of calls, each also as one call; and its PDB lines beside a plain reading of change request
-// §1 and, where the program READER is given, read back by gemmi.
+// starts, elements and floats in full, then random lists of calls, each also as one call; and its PDB lines beside a plain reading of change
+// request §1 and, where the program READER is given, read back by gemmi.
+mod elements;
 mod fitting;
 mod floats;
 mod identifiers;
@@ -48,14 +49,28 @@ fn as_one(r: &mut Random, length: usize, calls: &[Call], answers: &[u64], after:
     4
 }
 
+// What random lists come to.
+#[derive(Default)]
+struct Totals {
+    counts: Counts,
+    elements: elements::Counts,
+    stores: Spoilt,
+    reads: reading::Counts,
+    writes: writing::Counts,
+}
+
 // One random list; the number of spoilt ones made from it. The package reads at its end and at every eighth call.
-fn list(r: &mut Random, counts: &mut Counts, stores: &mut Spoilt, reads: &mut reading::Counts, writes: &mut writing::Counts) -> u64 {
+fn list(r: &mut Random, totals: &mut Totals) -> u64 {
+    let Totals { counts, elements, stores, reads, writes } = totals;
     let length = 1 + r.below(30 * 12) as usize;
     let mut sides = Sides::open((0..length).map(|_| r.word()).collect());
     let (mut calls, mut answers) = (Vec::new(), Vec::new());
     for step in 0..r.below(60) {
         let call = r.call(&sides.judges.machine);
-        let e = sides.edit(&call, counts);
+        let e = match call {
+            Call::SetElement(p, element) => elements::compare_random(r, &mut sides, (p, element), counts, elements),
+            _ => sides.edit(&call, counts),
+        };
         answers.extend([e.result, e.found, e.removed]);
         calls.push(call);
         let tree = r.tree();
@@ -91,14 +106,16 @@ fn main() {
     names::compare().print("names of an addition, each good or bad in three ways");
     trees::compare().print("small trees in full");
     starts::compare();
+    elements::compare();
     floats::compare().print("floats, each against each");
     writing::compare_formatting(&mut Random::new(seed)).print();
     writing::compare_limits();
-    let (mut counts, mut stores) = (Counts::default(), Spoilt::default());
-    let (mut reads, mut writes) = (reading::Counts::default(), writing::Counts::default());
+    let mut totals = Totals::default();
     let random = |i: u64| Random::new(seed.wrapping_mul(1_000_003).wrapping_add(i));
-    let spoilt: u64 = (0..lists).map(|i| list(&mut random(i), &mut counts, &mut stores, &mut reads, &mut writes)).sum();
+    let spoilt: u64 = (0..lists).map(|i| list(&mut random(i), &mut totals)).sum();
+    let Totals { counts, elements, stores, mut reads, writes } = totals;
     counts.print(&format!("seed {seed}, {lists} random lists and {spoilt} spoilt ones"));
+    elements.print();
     stores.print("the stores that they leave, each spoilt in four ways");
     let mut places = Counts::default();
     (0..lists / 10).for_each(|i| reading::compare_places(&mut random(i), &mut places, &mut reads));

@@ -24,6 +24,7 @@ fn in_domain(call: &Call) -> bool {
         Call::RemoveChainById(_, id) => id.is_ascii(),
         Call::RemoveResidueById(_, _, code) => given(code),
         Call::RemoveConformerById(_, name, location) => name.is_ascii() && given(location),
+        Call::SetElement(_, element) => (1..=118).contains(element),
         _ => true,
     }
 }

@@ -28,7 +28,7 @@ fn call(code: u64, words: &[u64]) -> Option<Call> {
         7 | 11 => (1, 1),
         8 => (4, 1),
         9 => (4, 2),
-        15 => (6, 0),
+        15 | 17 => (6, 0),
         16 => (8, 0),
         _ => return None,
     };
@@ -71,7 +71,8 @@ fn call(code: u64, words: &[u64]) -> Option<Call> {
         13 => Call::JoinModels(n[0], n[1]),
         14 => Call::JoinChains([n[0], n[1]], [n[2], n[3]]),
         15 => Call::JoinResidues([n[0], n[1], n[2]], [n[3], n[4], n[5]]),
-        _ => Call::JoinConformers([n[0], n[1], n[2], n[3]], [n[4], n[5], n[6], n[7]]),
+        16 => Call::JoinConformers([n[0], n[1], n[2], n[3]], [n[4], n[5], n[6], n[7]]),
+        _ => Call::SetElement([n[0], n[1], n[2], n[3], n[4]], n[5]),
     })
 }
 
@@ -125,6 +126,7 @@ pub fn headers() -> u64 {
         Call::RemoveConformerById([0, 0, 0], b"ALA".to_vec(), o(b"A")),
         Call::RemoveAtomsBy(0, vec![28, 0, 0]),
         Call::JoinConformers([0; 4], [0, 0, 0, 1]),
+        Call::SetElement([0; 5], 7),
     ];
     let lists: Vec<Vec<u64>> = calls.iter().map(list::words).collect();
     let words = lists.concat();

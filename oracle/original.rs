@@ -120,6 +120,15 @@ pub fn edit(p: &mut PDB, call: &Call) -> bool {
             conformer(p, a).join(second);
             residue(p, b).remove_conformer(b[3] as usize);
         }
+        // The crate's call overwrites, so it is made where there is no element.
+        Call::SetElement(at, number) => {
+            let atom = conformer(p, at).atom_mut(at[4] as usize).unwrap();
+            let is_missing = atom.element().is_none();
+            if is_missing {
+                atom.set_element(element(*number));
+            }
+            return is_missing;
+        }
     }
     true
 }

@@ -369,6 +369,17 @@ fn step(m: &mut Machine, length: usize, call: &Call) -> Step {
             conformer_at(m, p)?.atoms.extend(second);
             remove_at(&mut residue_at(m, q)?.conformers, q[3])
         }
+        Call::SetElement(p, element) => {
+            let atom = at(&mut conformer_at(m, p)?.atoms, p[4])?;
+            match (element, atom.values.element) {
+                (0 | 119.., _) => Err(7),
+                (_, 0) => {
+                    atom.values.element = *element;
+                    Ok(1)
+                }
+                _ => Ok(0),
+            }
+        }
     }
 }
 

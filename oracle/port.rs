@@ -35,7 +35,7 @@ pub fn find(store: &[u64], start: &[u64], tree: &[u64], out: &mut [u64]) -> Find
     }
 }
 
-// "The sixteen edit calls", with the arguments other than the store.
+// The seventeen edit calls, with the arguments other than the store.
 #[derive(Clone, Debug, PartialEq)]
 pub enum Call {
     AddModel(u64),
@@ -54,6 +54,7 @@ pub enum Call {
     JoinChains([u64; 2], [u64; 2]),
     JoinResidues([u64; 3], [u64; 3]),
     JoinConformers([u64; 4], [u64; 4]),
+    SetElement([u64; 5], u64),
 }
 
 impl Call {
@@ -87,5 +88,6 @@ pub fn edit(store: &mut [u64], call: &Call) -> Edit {
         Call::JoinChains(p, q) => ffi::join_chains(store, *p, *q),
         Call::JoinResidues(p, q) => ffi::join_residues(store, *p, *q),
         Call::JoinConformers(p, q) => ffi::join_conformers(store, *p, *q),
+        Call::SetElement(p, element) => ffi::set_element(store, *p, *element),
     }
 }

@@ -8,7 +8,14 @@ const CHAINS: [&[u8]; 8] = [b"A", b"B", b" A ", b"a", b"\tB", b"", b"AB", b"\x80
 const CODES: [&[u8]; 9] = [b"A", b"a", b" A", b"B", b" ", b"", b"\x01", b"A\0", b"LONGERTHAN8"];
 const NAMES: [&[u8]; 9] = [b"ALA", b"ala", b"HOH", b" GLY ", b"", b"A\t", b"NINELETRS", b"\xff", b"ALB"];
 const ATOMS: [&[u8]; 10] = [b"N", b"CA", b"ca", b"XX", b"", b" O ", b"HA2", b"\x7f", b"TOOLONGNAME", b"\tC"];
+const ELEMENTS: [u64; 5] = [1, 6, 7, 8, 118];
 const FLOATS: [f64; 12] = [0.0, -0.0, 0.5, 1.0, 1.0 + f64::EPSILON, f64::EPSILON, 1e-200, -1.0, f64::MAX, f64::NAN, f64::INFINITY, 30.0];
+
+fn lacks_element(m: &Machine, p: [u64; 5]) -> bool {
+    let [i, c, r, f, a] = p.map(|index| index as usize);
+    let atom = || m.get(i)?.chains.get(c)?.residues.get(r)?.conformers.get(f)?.atoms.get(a);
+    atom().is_some_and(|a| a.values.element == 0)
+}
 
 impl Random {
     pub fn new(seed: u64) -> Self {
@@ -79,6 +86,15 @@ impl Random {
         }
     }
 
+    // Mostly one that trees ask for; else any, or none: 0, one beyond the last, or one that is good in its lowest bits alone.
+    fn element(&mut self) -> u64 {
+        match self.below(6) {
+            0 => self.pick(&[0, 0, 119, 119, 120, 256 + 7, 1 << 32 | 7, 1 << 63 | 7, u64::MAX]),
+            1 => 1 + self.below(118),
+            _ => self.pick(&ELEMENTS),
+        }
+    }
+
     // An index of a list of n, or one beyond.
     fn index(&mut self, n: usize) -> u64 {
         if n == 0 || self.one_in(30) { self.pick(&[n as u64, n as u64 + 1, u64::MAX]) } else { self.below(n as u64) }
@@ -102,6 +118,12 @@ impl Random {
         p[3] = self.full(conformers, |f| f.atoms.is_empty());
         p[4] = self.index(conformers.get(p[3] as usize).map_or(0, |f| f.atoms.len()));
         p
+    }
+
+    // The same, drawn up to three times for an atom without an element.
+    fn to_fill(&mut self, m: &Machine) -> [u64; 5] {
+        let first = self.position(m);
+        (0..2).fold(first, |p, _| if lacks_element(m, p) { p } else { self.position(m) })
     }
 
     // An index past the end of a list of n; also one whose lower 32 bits are an index of the list.
@@ -139,7 +161,7 @@ impl Random {
         if m.is_empty() && !self.one_in(4) {
             return Call::AddModel(self.small());
         }
-        match self.below(40) {
+        match self.below(43) {
             1 => Call::RemoveChain(p2),
             2 => Call::RemoveResidue(p3),
             3 => Call::RemoveConformer(p4),
@@ -166,7 +188,8 @@ impl Random {
                 let [p, q] = self.two(m);
                 Call::JoinConformers(p, q)
             }
-            0 | 15 | 16 => Call::AddModel(self.small()),
+            15..=17 => Call::SetElement(self.to_fill(m), self.element()),
+            0 | 18 | 19 => Call::AddModel(self.small()),
             _ => Call::AddAtom {
                 model: p[0],
                 chain: self.text(&CHAINS),
@@ -190,7 +213,7 @@ impl Random {
         }
     }
 
-    fn node(&mut self, code: u64) -> [u64; 3] {
+    pub fn node(&mut self, code: u64) -> [u64; 3] {
         let n = self.small();
         let (p, q) = match code {
             1 | 12 => (n, 0),
@@ -204,7 +227,7 @@ impl Random {
             9 => (self.packed(&NAMES), 0),
             11 => (self.packed(&NAMES), self.packed(&CODES)),
             14 => (self.packed(&ATOMS), 0),
-            15 => (self.pick(&[1, 6, 7, 8, 118]), 0),
+            15 => (self.pick(&ELEMENTS), 0),
             16 | 18 => (self.float(), 0),
             17 | 19 => (self.float(), self.float()),
             _ => (0, 0),

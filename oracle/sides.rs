@@ -66,8 +66,8 @@ impl Sides {
         ours
     }
 
-    // From a start, with an output of so many words.
-    pub fn find(&self, start: &[u64], tree: &[u64], room: usize, counts: &mut Counts) -> Find {
+    // From a start, with an output of so many words; the answer and the output.
+    pub fn find_out(&self, start: &[u64], tree: &[u64], room: usize, counts: &mut Counts) -> (Find, Vec<u64>) {
         let (answer, out) = find(&self.store, Ok(&self.judges.machine), start, tree, room);
         counts.finds += 1;
         counts.no_such_start += (answer.result == 5) as u64;
@@ -76,7 +76,11 @@ impl Sides {
             assert_eq!(hits.concat(), out[..answer.hits as usize * 5], "the crate's hits of {tree:?} from {start:?} on {:?}", self.store);
             counts.finds_by_crate[start.len()] += 1;
         }
-        answer
+        (answer, out)
+    }
+
+    pub fn find(&self, start: &[u64], tree: &[u64], room: usize, counts: &mut Counts) -> Find {
+        self.find_out(start, tree, room, counts).0
     }
 
     // Into words that hold anything.

@@ -21,8 +21,8 @@ impl Spoilt {
 }
 
 // Without atoms: in model 0 residue 1 of chain 0 and the conformer of chain 1, chain 1 of model 1, and model 2.
-fn sample() -> Sides {
-    let mut sides = trees::sample();
+pub fn sample(atoms: [(&str, u64); 3]) -> Sides {
+    let mut sides = trees::sample(atoms);
     let atom = || Call::RemoveAtom([0, 1, 0, 0, 0]);
     let calls = [Call::RemoveConformer([0, 0, 1, 0]), atom(), atom(), atom(), Call::RemoveResidue([1, 1, 0]), Call::AddModel(3)];
     calls.iter().for_each(|call| assert_eq!(sides.edit(call, &mut Counts::default()).result, 0));
@@ -41,7 +41,7 @@ fn nodes() -> Vec<Vec<u64>> {
 }
 
 // Each start of so many indexes with one of them past the end of its list.
-fn missing(m: &Machine, indexes: usize) -> Vec<Vec<u64>> {
+pub fn missing(m: &Machine, indexes: usize) -> Vec<Vec<u64>> {
     let mut all = Vec::new();
     for start in positions(m, indexes) {
         for level in 0..indexes {
@@ -119,7 +119,7 @@ fn every_word(store: &[u64], counts: &mut Spoilt) {
 }
 
 pub fn compare() {
-    let (sides, mut counts, mut stores) = (sample(), Counts::default(), Spoilt::default());
+    let (sides, mut counts, mut stores) = (sample(trees::ATOMS), Counts::default(), Spoilt::default());
     every_start(&sides, &mut counts);
     counts.print("every start of a small store, and each with an index past the end");
     refusals(&sides.store, &mut stores);

@@ -9,11 +9,13 @@ const WORDS: usize = 40 * 12 + 1;
 // One of each level. Records stand before those from the chain down, and behind all but the structure; the conformer isn't an amino acid's.
 pub const STARTS: [&[u64]; 5] = [&[], &[0], &[1, 0], &[1, 0, 0], &[1, 0, 1, 0]];
 
-pub fn sample() -> Sides {
+// The names and elements of each conformer's atoms.
+pub const ATOMS: [(&str, u64); 3] = [("N", 7), ("XX", 0), ("CB", 6)];
+
+pub fn sample(atoms: [(&str, u64); 3]) -> Sides {
     let mut sides = Sides::open(vec![0; WORDS]);
     let counts = &mut Counts::default();
     let conformers = [("A", 7, "ALA"), ("A", 8, "HOH"), ("B", 7, "ALA")];
-    let atoms = [("N", 7), ("XX", 0), ("CB", 6)];
     for i in 0..18 {
         let model = i / 9;
         if i % 9 == 0 {
@@ -32,7 +34,7 @@ pub fn sample() -> Sides {
 fn both(sides: &mut Sides, tree: &[u64], counts: &mut Counts) {
     let results = STARTS.map(|start| sides.find(start, tree, WORDS, counts).result);
     let removal = Call::RemoveAtomsBy(0, tree.to_vec());
-    let answer = if results[0] == 0 { sample().edit(&removal, counts) } else { sides.edit(&removal, counts) };
+    let answer = if results[0] == 0 { sample(ATOMS).edit(&removal, counts) } else { sides.edit(&removal, counts) };
     assert_eq!(results, [answer.result; 5]);
 }
 
@@ -74,7 +76,7 @@ fn lengths(sides: &mut Sides, counts: &mut Counts) {
 
 pub fn compare() -> Counts {
     let mut counts = Counts::default();
-    let mut sides = sample();
+    let mut sides = sample(ATOMS);
     single_nodes(&mut sides, &mut counts);
     lists(&mut sides, 6, &mut counts);
     lengths(&mut sides, &mut counts);

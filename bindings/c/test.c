@@ -139,6 +139,52 @@ static void edit(void) {
     expect("one record is left", jubrelti_records(store, LENGTH), 1);
 }
 
+/* The store S again: atom 0 has element 7, atom 1 none. */
+static void open_s(void) {
+    expect("open", jubrelti_open(store, LENGTH), JUBRELTI_DONE);
+    expect("add model 1", jubrelti_add_model(store, LENGTH, 1).result, JUBRELTI_DONE);
+    expect("add N", add(1, "N", 7, 1.5).result, JUBRELTI_DONE);
+    expect("add XX without an element", add(2, "XX", 0, 2.5).result, JUBRELTI_DONE);
+}
+
+static JubreltiEdit set_element(uint64_t atom, uint64_t element) {
+    return jubrelti_set_element(store, LENGTH, 0, 0, 0, 0, atom, element);
+}
+
+static void elements(void) {
+    const uint64_t nitrogen[] = {JUBRELTI_NODE_ELEMENT(7)};
+    open_s();
+    expect("0 is no element", set_element(1, 0).result, JUBRELTI_BAD_VALUE);
+    expect("nor is 119", set_element(1, 119).result, JUBRELTI_BAD_VALUE);
+    expect("also where there is one", set_element(0, 119).result, JUBRELTI_BAD_VALUE);
+    expect("nothing at the position comes first", set_element(2, 119).result, JUBRELTI_NO_POSITION);
+    expect("the element is still missing", jubrelti_atom_element(store, 5), 0);
+    JubreltiEdit edited = set_element(1, 7);
+    expect("set it", edited.result, JUBRELTI_DONE);
+    expect("it was missing", edited.found, 1);
+    expect("no atom goes", edited.removed, 0);
+    expect("it is set", jubrelti_atom_element(store, 5), 7);
+    expect("hits of nitrogen stay", hits(nitrogen, 3), 2);
+    edited = set_element(1, 8);
+    expect("set it again", edited.result, JUBRELTI_DONE);
+    expect("one is there", edited.found, 0);
+    expect("and stays", jubrelti_atom_element(store, 5), 7);
+}
+
+static void elements_in_a_list(void) {
+    const uint64_t nitrogen[] = {JUBRELTI_NODE_ELEMENT(7)};
+    const uint64_t list[] = {JUBRELTI_SET_ELEMENT, 6, 0, 0, 0, 0, 2, 119, JUBRELTI_SET_ELEMENT, 6, 0, 0, 0, 0, 1, 119,
+                             JUBRELTI_SET_ELEMENT, 6, 0, 0, 0, 0, 1, 8,   JUBRELTI_SET_ELEMENT, 6, 0, 0, 0, 0, 1, 7};
+    const uint64_t answers[] = {JUBRELTI_NO_POSITION, 0, 0, JUBRELTI_BAD_VALUE, 0, 0, JUBRELTI_DONE, 1, 0, JUBRELTI_DONE, 0, 0};
+    open_s();
+    expect("set elements", jubrelti_apply(store, LENGTH, list, JUBRELTI_LENGTH(list), out, OUT).calls, 4);
+    for (size_t i = 0; i < JUBRELTI_LENGTH(answers); i++) {
+        expect("answer", out[i], answers[i]);
+    }
+    expect("the first that could be set is", jubrelti_atom_element(store, 5), 8);
+    expect("hits of nitrogen lose the atom", hits(nitrogen, 3), 1);
+}
+
 static size_t length_of(const char *text) {
     return text == NULL ? 0 : strlen(text);
 }
@@ -166,6 +212,7 @@ static void no_store(void) {
     expect("look up in no words", jubrelti_binary_find_atom(NULL, 0, 1, 0, NULL, 0).result, JUBRELTI_BAD_LENGTH);
     expect("write no words", jubrelti_write_pdb(NULL, 0, NULL, 0).result, JUBRELTI_BAD_LENGTH);
     expect("edit no words", jubrelti_add_model(NULL, 0, 1).result, JUBRELTI_BAD_LENGTH);
+    expect("set an element in no words", jubrelti_set_element(NULL, 0, 0, 0, 0, 0, 0, 119).result, JUBRELTI_BAD_LENGTH);
     expect("apply a list to no words", jubrelti_apply(NULL, 0, NULL, 0, NULL, 0).result, JUBRELTI_BAD_LENGTH);
 }
 
@@ -461,6 +508,8 @@ int main(void) {
     search();
     lines();
     edit();
+    elements();
+    elements_in_a_list();
     no_store();
     no_texts();
     prepared_codes();

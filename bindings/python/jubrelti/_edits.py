@@ -1,4 +1,4 @@
-"""The sixteen edits: their arguments as words, for a call of its own or for a list of edits (docs/FORMATS.md, "List of edits")."""
+"""The seventeen edits: their arguments as words, for a call of its own or for a list of edits (docs/FORMATS.md, "List of edits")."""
 
 from __future__ import annotations
 
@@ -19,7 +19,9 @@ ConformerIdentifier = Tuple[str, Optional[str]]
 
 
 class Edited(NamedTuple):
-    """What an accepted edit did: `found` is False where a removal by id found nothing, `removed` is how many atoms went."""
+    """What an accepted edit did: `found` is False where a removal by id found nothing, and where an element was to be set and the
+    atom had one; `removed` is how many atoms went.
+    """
 
     found: bool
     removed: int
@@ -159,6 +161,16 @@ class Editing(ABC, Generic[Answer]):
     def join_conformers(self, first: Position, second: Position) -> Answer:
         """Puts the second's atoms after the first's, and removes the second. Nothing is merged."""
         return self._join(16, "a conformer", 4, first, second)
+
+    def set_element(self, position: Position, element: Union[str, int]) -> Answer:
+        """Sets an atom's element, a symbol or an atomic number, where it is missing. Where the atom has one, nothing changes and `found`
+        is False: no edit overwrites an element.
+
+        A search then lists the same atoms as before, or all of them but this one. `hit.position` is the position of a hit, and
+        `Element("S") & ~Element("S")` lists the atoms without an element.
+        """
+        place = values.position(position, "an atom", 5)
+        return self._edit(17, (*place, values.element(element, "the atom's element")))
 
 
 class Edits(Editing["Edits"]):

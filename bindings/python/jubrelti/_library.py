@@ -150,6 +150,7 @@ EDITS = {
     14: _edit("join_chains", *[_U64] * 4),
     15: _edit("join_residues", *[_U64] * 6),
     16: _edit("join_conformers", *[_U64] * 8),
+    17: _edit("set_element", *[_U64] * 6),
 }
 
 

@@ -35,6 +35,8 @@ EDITS = [
     (lambda s: s.join_chains((0, 1), (0, 0)), (True, 0), [5, 1, 2, 3, 4, 6, 7]),
     (lambda s: s.join_residues((1, 0, 0), (0, 0, 1)), (True, 0), [1, 2, 5, 6, 7, 3, 4]),
     (lambda s: s.join_conformers((0, 0, 1, 1), (0, 0, 1, 0)), (True, 0), [1, 2, 4, 3, 5, 6, 7]),
+    (lambda s: s.set_element((0, 2, 0, 0, 0), "Se"), (True, 0), [1, 2, 3, 4, 5, 6, 7]),
+    (lambda s: s.set_element([0, 0, 0, 0, 0], 8), (False, 0), [1, 2, 3, 4, 5, 6, 7]),
 ]
 
 
@@ -95,6 +97,68 @@ class Each(unittest.TestCase):
         atom = store.atoms[0]
         self.assertEqual((atom.name, atom.pos, atom.occupancy, atom.b_factor), ("", (0.0, 0.0, 0.0), 1.0, 0.0))
         self.assertEqual((atom.element, atom.charge, atom.hetero), (None, 0, False))
+
+
+class Elements(unittest.TestCase):
+    # The atom of `rich` without an element.
+    UNKNOWN = (0, 2, 0, 0, 0)
+
+    def lists(self, store, search):
+        """The positions that a search lists, from the whole store and from each level above the atom."""
+        finds = (store.chain_find, store.residue_find, store.conformer_find)
+        lower = [find(self.UNKNOWN[:indexes], search) for indexes, find in enumerate(finds, 2)]
+        return [[hit.position for hit in hits] for hits in (store.find(search), store.model_find(0, search), *lower)]
+
+    def test_where_it_is_missing(self):
+        word = 12 * rich().chain_find((0, 2), EVERY)[0].records[4] + 8
+        for number, symbol in enumerate(ELEMENTS, 1):
+            expected = rich().words.tolist()
+            expected[word] = number
+            for element in (number, symbol, symbol.lower()):
+                store = rich()
+                self.assertEqual(store.set_element(self.UNKNOWN, element), Edited(True, 0))
+                self.assertEqual(store.words.tolist(), expected)
+                self.assertEqual(store.chain_find((0, 2), EVERY)[0].atom.element, symbol)
+
+    def test_where_one_is_present(self):
+        store = rich()
+        hits = store.find(EVERY)
+        for element in ("N", "C"):
+            self.assertEqual(store.set_element((0, 0, 0, 0, 0), element), Edited(False, 0))
+        self.assertEqual(store, rich())
+        self.assertEqual(hits[0].atom.element, "N")
+        store.set_element(self.UNKNOWN, "S")
+        with self.assertRaises(StaleHitError):
+            hits[0].atom
+        set_once = store.words.tolist()
+        self.assertEqual(store.set_element(self.UNKNOWN, "Se"), Edited(False, 0))
+        self.assertEqual(store.words.tolist(), set_once)
+
+    def test_searches_before_and_after(self):
+        """A search lists what it listed before, or all of it but the atom whose element was set."""
+        # With the elements that make the search false at the atom.
+        searches = [
+            (Element("N"), "CO"),
+            (~Element("N"), "N"),
+            (Element("N") & ~Element("N"), "CNO"),
+            (Element("N") | ~Element("N"), ""),
+            (Element("N") ^ Element("O"), "C"),
+            (AtomName("XX") & ~Element("C"), "C"),
+            (Hetero() & Element("C"), ""),
+            (BFactor(60.0) | Element("C"), ""),
+            # False at the atom's chain, but undecided from there down.
+            (ChainId("A") & Element("N"), "CO"),
+        ]
+        for search, lost_by in searches:
+            for element in "CNO":
+                with self.subTest((search, element)):
+                    store = rich()
+                    expected = self.lists(store, search)
+                    if element in lost_by:
+                        self.assertIn(self.UNKNOWN, expected[4])
+                        expected = [[position for position in listed if position != self.UNKNOWN] for listed in expected]
+                    self.assertEqual(store.set_element(self.UNKNOWN, element), Edited(True, 0))
+                    self.assertEqual(self.lists(store, search), expected)
 
 
 class Lists(unittest.TestCase):

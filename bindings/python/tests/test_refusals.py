@@ -22,6 +22,11 @@ class Refusals(unittest.TestCase):
         self.assertEqual((caught.exception.number, caught.exception.name, str(caught.exception)), (number, name, sentence))
         self.assertEqual(store.words.tolist(), before)
 
+    def refused_in_a_list(self, name, edits):
+        store = rich()
+        self.assertEqual([error.name for _, error in store.apply(edits).refused], [name])
+        self.assertEqual(store, rich())
+
     def test_identifiers(self):
         atom = NewAtom(1, "CA")
         bad = {
@@ -40,6 +45,13 @@ class Refusals(unittest.TestCase):
                 atom = NewAtom(1, "CA", **{field: float(value)})
                 self.refused("BadValue", lambda s: s.add_atom(0, atom, "A", (1, None), GLY))
 
+    def test_elements(self):
+        """`set_element` gives no other number than an element's, so these are given as words."""
+        for number in (0, 119, 2**64 - 1):
+            for name, atom in (("BadValue", (0, 2, 0, 0, 0)), ("BadValue", (0, 0, 0, 0, 0)), ("NoPosition", (0, 2, 0, 0, 1))):
+                self.refused(name, lambda s: s._edit(17, (*atom, number)))
+                self.refused_in_a_list(name, Edits()._edit(17, (*atom, number)))
+
     def test_positions(self):
         self.refused("NoPosition", lambda s: s.add_atom(2, NewAtom(1, "CA"), "A", (1, None), GLY))
         self.refused("NoPosition", lambda s: s.remove_chain((0, 3)))
@@ -47,6 +59,7 @@ class Refusals(unittest.TestCase):
         self.refused("NoPosition", lambda s: s.remove_conformer((0, 0, 1, 2)))
         self.refused("NoPosition", lambda s: s.remove_atom((0, 0, 0, 0, 2**64 - 1)))
         self.refused("NoPosition", lambda s: s.join_chains((0, 0), (0, 9)))
+        self.refused("NoPosition", lambda s: s.set_element((0, 2, 0, 0, 1), "N"))
         self.refused("JoinWithItself", lambda s: s.join_models(1, 1))
         self.refused("JoinWithItself", lambda s: s.join_conformers((0, 0, 0, 0), (0, 0, 0, 0)))
 
@@ -130,6 +143,14 @@ class WithoutWord(unittest.TestCase):
             with self.subTest(fields):
                 atom = NewAtom(**{"serial_number": 1, "name": "CA", **fields})
                 self.no_word(kind, sentence, lambda s: s.add_atom(0, atom, "A", (1, None), GLY))
+
+    def test_elements(self):
+        for value in (0, 119, -1):
+            self.no_word(ValueError, "element is a whole number from 1 to 118", lambda s: s.set_element((0, 2, 0, 0, 0), value))
+        for value in (None, 7.0, True):
+            self.no_word(TypeError, "the atom's element is a whole number, not ", lambda s: s.set_element((0, 2, 0, 0, 0), value))
+        self.no_word(ValueError, "the symbol 'Xx', which no element has", lambda s: s.set_element((0, 2, 0, 0, 0), "Xx"))
+        self.no_word(ValueError, "the position of an atom has 5 indexes", lambda s: s.set_element((0, 2), "N"))
 
     def test_ids(self):
         atom = NewAtom(1, "CA")

@@ -21,7 +21,7 @@ const GLYCINE: [Line; 4] = [
 ];
 
 const FRAGMENT: [Line; 3] =
-    [(11, "C1", "C", [6.1, -3.0, 2.2], 35.0), (12, "O1", "O", [7.3, -3.1, 2.4], 36.0), (13, "X1", "", [5.2, -3.9, 2.0], 38.0)];
+    [(11, "C1", "C", [6.1, -3.0, 2.2], 35.0), (12, "O1", "O", [7.3, -3.1, 2.4], 36.0), (13, "X1", "", [4.9, -4.2, 1.9], 38.0)];
 
 fn add(model: &mut ModelBuilder, lines: &[Line], chain: &str, residue: isize, name: &str) -> Result<(), Error> {
     for &(serial_number, atom, symbol, [x, y, z], b_factor) in lines {
@@ -64,6 +64,14 @@ fn main() -> Result<(), Error> {
     list("ligand without hydrogen, for contacts", store.find(ligand & !Term::Element(Element::H))?);
     // A viewer that stands on the second chain asks from there.
     list("chain B without carbon", store.chain_find([0, 1], !Term::Element(Element::C))?);
+
+    // Only an atom without an element is a hit of such a term and of its opposite. The anomalous map says what X1 is.
+    let unknown = Term::Element(Element::S) & !Term::Element(Element::S);
+    let positions: Vec<_> = store.find(unknown.clone())?.map(|hit| hit.position()).collect();
+    for position in positions {
+        store.set_element(position, Element::S)?;
+    }
+    println!("{} atoms without an element are left", store.find(unknown)?.len());
 
     // Both edits or none: the loose atoms go, and what holds no atoms then.
     let mut edits = Edits::new();

@@ -1,12 +1,12 @@
 // The edits one by one, each of which checks the whole store first.
 use crate::new_atom::optional;
 use crate::store::{doubled, room};
-use crate::{ffi, Error, NewAtom, Search, Store, Words};
+use crate::{ffi, Element, Error, NewAtom, Search, Store, Words};
 
 /// What an accepted edit did.
 #[derive(Clone, Copy, Debug, PartialEq, Eq)]
 pub struct Edited {
-    /// False where a removal by id found nothing.
+    /// False where a removal by id found nothing, and where an element was to be set and the atom had one.
     pub found: bool,
     /// How many atoms went.
     pub removed: usize,
@@ -129,5 +129,35 @@ impl<W: Words> Store<W> {
     /// Puts the second's atoms after the first's, and removes the second. Nothing is merged.
     pub fn join_conformers(&mut self, first: [usize; 4], second: [usize; 4]) -> Result<Edited, Error> {
         self.edit(|store| ffi::join_conformers(store, numbers(first), numbers(second)))
+    }
+
+    /// Sets an atom's element where it is missing. Where the atom has one, nothing changes and [Edited::found] is false: no edit
+    /// overwrites an element.
+    ///
+    /// A search then lists the same atoms as before, or all of them but this one. No record moves, so the positions of other atoms
+    /// stay as they are.
+    ///
+    /// ```
+    /// use jubrelti::*;
+    ///
+    /// # fn main() -> Result<(), Error> {
+    /// # let mut store = Store::new();
+    /// # store.add_model(1)?;
+    /// # store.add_atom(0, NewAtom { name: "N", element: Some(Element::N), ..NewAtom::default() }, "A", (7, None), ("LIG", None))?;
+    /// # store.add_atom(0, NewAtom { name: "X1", ..NewAtom::default() }, "A", (7, None), ("LIG", None))?;
+    /// // An atom without an element is a hit of such a term and of its opposite, and no other atom is a hit of both.
+    /// let unknown = Term::Element(Element::S) & !Term::Element(Element::S);
+    /// let positions: Vec<[usize; 5]> = store.find(unknown.clone())?.map(|hit| hit.position()).collect();
+    /// for position in positions {
+    ///     assert!(store.set_element(position, Element::S)?.found);
+    ///     assert!(!store.set_element(position, Element::Se)?.found);
+    /// }
+    /// assert_eq!(store.find(unknown)?.len(), 0);
+    /// # assert_eq!(store.atoms().map(|a| a.element().copied()).collect::<Vec<_>>(), [Some(Element::N), Some(Element::S)]);
+    /// # Ok(())
+    /// # }
+    /// ```
+    pub fn set_element(&mut self, position: [usize; 5], element: Element) -> Result<Edited, Error> {
+        self.edit(|store| ffi::set_element(store, numbers(position), element.atomic_number() as u64))
     }
 }

@@ -178,6 +178,7 @@ extern "C" {
     fn jubrelti_join_residues(store: Words, n: usize, a: u64, b: u64, c: u64, a2: u64, b2: u64, c2: u64) -> Edit;
     #[rustfmt::skip]
     fn jubrelti_join_conformers(store: Words, n: usize, a: u64, b: u64, c: u64, d: u64, a2: u64, b2: u64, c2: u64, d2: u64) -> Edit;
+    fn jubrelti_set_element(store: Words, n: usize, model: u64, chain: u64, residue: u64, conformer: u64, atom: u64, element: u64) -> Edit;
 }
 
 // The linked library's version: major * 1,000,000 + minor * 1,000 + patch.
@@ -335,4 +336,9 @@ pub fn join_residues(store: &mut [u64], [a, b, c]: [u64; 3], [a2, b2, c2]: [u64;
 pub fn join_conformers(store: &mut [u64], [a, b, c, d]: [u64; 4], [a2, b2, c2, d2]: [u64; 4]) -> Edit {
     // SAFETY: one slice, borrowed by `&mut` and written.
     unsafe { jubrelti_join_conformers(store.as_mut_ptr(), store.len(), a, b, c, d, a2, b2, c2, d2) }
+}
+
+pub fn set_element(store: &mut [u64], [model, chain, residue, conformer, atom]: [u64; 5], element: u64) -> Edit {
+    // SAFETY: one slice, borrowed by `&mut` and written.
+    unsafe { jubrelti_set_element(store.as_mut_ptr(), store.len(), model, chain, residue, conformer, atom, element) }
 }

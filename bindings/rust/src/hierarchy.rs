@@ -74,7 +74,7 @@ impl Hit<'_> {
         self.records.map(|r| r as usize)
     }
 
-    /// The indexes from the model down, as the edits take them. An edit moves what stands behind it, so these go from the last to
+    /// The indexes from the model down, as the edits take them. A removal moves what stands behind it, so these go from the last to
     /// the first:
     ///
     /// ```

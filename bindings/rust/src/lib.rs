@@ -65,7 +65,8 @@
 //! ## What the crate has and this package leaves out
 //!
 //! - All that ends in `_mut`, each `set_..`, the constructors, `sort`, `renumber`, `apply_transformation`: words are edited by the
-//!   library's proved edits alone, and a change of what was read out would be lost.
+//!   library's proved edits alone, and a change of what was read out would be lost. [Store::set_element] fills in an element that is
+//!   missing.
 //! - All that begins with `par_`, and the trees of rstar: the package has no dependencies. A store is `Sync`, so threads can share
 //!   its atoms.
 //! - `distance_wrapping` and the four `overlaps..`: a store has no unit cell, and the package no table of radii.
@@ -123,7 +124,7 @@ pub use search::{Ops, Search, Term};
 pub use store::{Store, Words, MAX_RECORDS};
 
 /// The version of these bindings, and of the library that they call: major * 1,000,000 + minor * 1,000 + patch.
-pub const VERSION: u64 = 7_000;
+pub const VERSION: u64 = 8_000;
 
 // A library of another version may lay out its words or number its refusals in another way. A patch changes neither.
 fn check_version() -> Result<(), Error> {
@@ -157,5 +158,17 @@ mod tests {
             let known = number <= 16 || [22, 23].contains(&number);
             assert_eq!(refusal == Error::Unknown(number), !known);
         }
+    }
+
+    // Numbers that `Element` doesn't have, as C can give them.
+    #[test]
+    fn elements_outside_1_to_118() {
+        let mut store = Store::new();
+        store.add_model(1).unwrap();
+        store.add_atom(0, NewAtom::default(), "A", (1, None), ("GLY", None)).unwrap();
+        let mut set = |atom, element| ffi::set_element(store.words_mut(), [0, 0, 0, 0, atom], element).result;
+        assert_eq!([0, 119, u64::MAX].map(|element| set(0, element)), [7; 3]);
+        assert_eq!([0, 119, u64::MAX].map(|element| set(1, element)), [5; 3]);
+        assert_eq!((set(0, 118), set(0, 119)), (0, 7));
     }
 }

@@ -1,7 +1,7 @@
 // Lists of edits as the library's words (docs/FORMATS.md, "List of edits").
 use crate::edits::numbers;
 use crate::new_atom::optional;
-use crate::{ffi, Error, NewAtom, Search};
+use crate::{ffi, Element, Error, NewAtom, Search};
 use std::fmt;
 
 const ADD_MODEL: u64 = 1;
@@ -220,6 +220,12 @@ impl Edits {
     /// See [Store::join_conformers](crate::Store::join_conformers).
     pub fn join_conformers(&mut self, first: [usize; 4], second: [usize; 4]) -> &mut Self {
         self.push(16, &[numbers(first), numbers(second)].concat(), &[])
+    }
+
+    /// See [Store::set_element](crate::Store::set_element).
+    pub fn set_element(&mut self, position: [usize; 5], element: Element) -> &mut Self {
+        let [model, chain, residue, conformer, atom] = numbers(position);
+        self.push(17, &[model, chain, residue, conformer, atom, element.atomic_number() as u64], &[])
     }
 }
 

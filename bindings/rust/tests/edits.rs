@@ -106,6 +106,103 @@ fn joins() {
     assert_eq!(store.join_chains([0, 2], [0, 2]), Err(Error::NoPosition));
 }
 
+const UNKNOWN: [usize; 5] = [0, 0, 1, 0, 1];
+
+// The example with two atoms whose element is missing: at UNKNOWN, and in chain B.
+fn with_unknown() -> Store {
+    let mut store = example();
+    let atom = NewAtom { serial_number: 7, name: "XX", charge: 3, hetero: true, ..NewAtom::default() };
+    assert_eq!(store.add_atom(0, atom, "A", (2, None), ("GLY", Some("A"))), Ok(EDITED));
+    assert_eq!(store.add_atom(0, atom, "B", (1, None), ("GLY", None)), Ok(EDITED));
+    store
+}
+
+#[test]
+fn an_element_where_it_is_missing() {
+    let unknown = with_unknown();
+    let record = unknown.atoms_with_hierarchy().find(|hit| hit.position() == UNKNOWN).unwrap().records()[4];
+    for number in 1..=118 {
+        let (mut store, mut words) = (unknown.clone(), unknown.words().to_vec());
+        let element = Element::new(number).unwrap();
+        assert_eq!(store.set_element(UNKNOWN, element), Ok(EDITED));
+        words[record * 12 + 8] = number as u64;
+        assert_eq!(store.words(), words);
+        assert_eq!(store.residue(1).unwrap().conformer(0).unwrap().atom(1).unwrap().element(), Some(&element));
+    }
+}
+
+#[test]
+fn an_element_that_is_present_stays() {
+    let mut store = with_unknown();
+    let before = store.words().to_vec();
+    assert_eq!(store.set_element([0; 5], Element::N), Ok(NOT_FOUND));
+    assert_eq!(store.set_element([0; 5], Element::C), Ok(NOT_FOUND));
+    assert_eq!(store.words(), before);
+    assert_eq!(store.set_element(UNKNOWN, Element::S), Ok(EDITED));
+    let set = store.words().to_vec();
+    assert_eq!(store.set_element(UNKNOWN, Element::Se), Ok(NOT_FOUND));
+    assert_eq!(store.words(), set);
+}
+
+#[test]
+fn an_element_of_no_atom() {
+    let mut store = with_unknown();
+    let before = store.words().to_vec();
+    for level in 0..5 {
+        for index in [2, usize::MAX] {
+            let mut position = UNKNOWN;
+            position[level] = index;
+            assert_eq!(store.set_element(position, Element::N), Err(Error::NoPosition), "at {position:?}");
+        }
+    }
+    assert_eq!(store.words(), before);
+}
+
+// The positions that a search lists, from the whole store and from each level above an atom.
+fn lists(store: &Store, [model, chain, residue, conformer, _]: [usize; 5], search: &Search) -> [Vec<[usize; 5]>; 5] {
+    let search = || search.clone();
+    [
+        store.find(search()),
+        store.model_find(model, search()),
+        store.chain_find([model, chain], search()),
+        store.residue_find([model, chain, residue], search()),
+        store.conformer_find([model, chain, residue, conformer], search()),
+    ]
+    .map(|hits| hits.unwrap().map(|hit| hit.position()).collect())
+}
+
+// A search lists what it listed before, or all of it but the atom whose element was set.
+#[test]
+fn searches_before_and_after_an_element_is_set() {
+    use Element::{C, N, O};
+    let name = |name: &str| Term::AtomName(name.to_owned());
+    // With the elements that make the search false at the atom.
+    let searches: [(Search, &[Element]); 9] = [
+        (Term::Element(N).into(), &[C, O]),
+        (!Term::Element(N), &[N]),
+        (Term::Element(N) & !Term::Element(N), &[C, N, O]),
+        (Term::Element(N) | !Term::Element(N), &[]),
+        (Term::Element(N) ^ Term::Element(O), &[C]),
+        (name("XX") & !Term::Element(C), &[C]),
+        (name("CA") & Term::Element(C), &[]),
+        (Term::Hetero | Term::Element(C), &[]),
+        // False at the atom's chain, but undecided from there down.
+        (Term::ChainId("B".to_owned()) & Term::Element(N), &[C, O]),
+    ];
+    for (search, lost_by) in searches {
+        for element in [C, N, O] {
+            let mut store = with_unknown();
+            let mut expected = lists(&store, UNKNOWN, &search);
+            if lost_by.contains(&element) {
+                assert!(expected[4].contains(&UNKNOWN), "{search}");
+                expected.iter_mut().for_each(|list| list.retain(|position| *position != UNKNOWN));
+            }
+            assert_eq!(store.set_element(UNKNOWN, element), Ok(EDITED));
+            assert_eq!(lists(&store, UNKNOWN, &search), expected, "{search} with {element}");
+        }
+    }
+}
+
 #[test]
 fn all_that_a_hit_tells() {
     let mut store = Store::with_records(5).unwrap();

@@ -13,6 +13,10 @@ fn each_edit_as_by_itself() {
         edits.add_atom(0, atom(serial), chain, (residue, Some("x")), ("GLY", location));
     }
     edits.add_atom(7, atom(5), "A", (1, None), ("GLY", None));
+    edits.add_atom(0, NewAtom { element: None, ..atom(6) }, "B", (1, Some("x")), ("GLY", None));
+    for (index, element) in [(1, Element::N), (1, Element::O), (2, Element::O)] {
+        edits.set_element([0, 1, 0, 1, index], element);
+    }
     edits.remove_atom([0, 0, 0, 0, 0]).remove_empty(0).remove_chain_by_id(0, "C").remove_residue_by_id([0, 0], (2, Some("X")));
     edits.remove_conformer_by_id([0, 1, 0], ("GLY", Some("B"))).remove_atom_by_serial_number([0, 1, 0, 0], 9);
     edits.join_chains([0, 1], [0, 0]).join_models(1, 0).join_residues([0, 0, 0], [0, 0, 0]).join_conformers([0; 4], [0, 0, 0, 1]);
@@ -27,6 +31,10 @@ fn each_edit_as_by_itself() {
     }
     answers.extend([
         s.add_atom(7, atom(5), "A", (1, None), ("GLY", None)),
+        s.add_atom(0, NewAtom { element: None, ..atom(6) }, "B", (1, Some("x")), ("GLY", None)),
+        s.set_element([0, 1, 0, 1, 1], Element::N),
+        s.set_element([0, 1, 0, 1, 1], Element::O),
+        s.set_element([0, 1, 0, 1, 2], Element::O),
         s.remove_atom([0, 0, 0, 0, 0]),
         s.remove_empty(0),
         s.remove_chain_by_id(0, "C"),
@@ -43,6 +51,7 @@ fn each_edit_as_by_itself() {
         s.remove_chain([0; 2]),
     ]);
     assert!(answers.iter().any(|a| a.is_err()) && answers.iter().any(|a| a.is_ok()));
+    assert_eq!(answers[8..11], [Ok(EDITED), Ok(Edited { found: false, removed: 0 }), Err(Error::NoPosition)]);
 
     let mut as_one = Store::with_records(30).unwrap();
     assert_eq!(as_one.apply(&edits).unwrap().answers(), answers);

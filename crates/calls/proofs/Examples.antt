@@ -1,10 +1,10 @@
 -- Three calls as words, and lists that are none. Assumes nothing.
-use Prim.Native.Nat.{ℕ}
+use Prim.Native.Nat.{ℕ, suc}
 use mathlib.Core.Path.{_≡_, refl}
 use mathlib.Core.Bool.{true, false}
 use mathlib.Core.List.{List, [], _∷_}
 use mathlib.Core.Option.{some}
-use lib.ListN.{replicate}
+use lib.ListN.{length, replicate}
 use Rattle.machine.specs.Lists.{any, all}
 use Rattle.machine.specs.Edit.{Call, RemoveResidueById, RemoveAtomsBy, JoinModels}
 use Rattle.calls.specs.Format.{rows, readParts, callOf, readCall, callsIn, readCalls}
@@ -31,9 +31,9 @@ long n tree = 11 ∷ n ∷ 0 ∷ tree ∷ replicate {A = ℕ} tree 300
 
 abbrev bad : List (List ℕ)
 bad =
-    -- codes 0 and 17
+    -- code 0, and the one behind the last row's
     (0 ∷ 0 ∷ [])
-    ∷ (17 ∷ 0 ∷ [])
+    ∷ (suc (length rows) ∷ 0 ∷ [])
     -- a header cut short, a call cut short, and a word behind the last call
     ∷ (12 ∷ [])
     ∷ (12 ∷ 1 ∷ [])

@@ -28,9 +28,10 @@ use Rattle.machine.specs.Edit.{
   JoinChains,
   JoinResidues,
   JoinConformers,
+  SetElement,
 }
 
--- ---- the calls, in document 01's order: code 1 is the first row's
+-- ---- the calls, in the order of `Call`: code 1 is the first row's
 
 -- a call has so many numbers, so many texts, and behind these so many trees; they make the call, where n k is number k and p k part k
 pub record Row : Type 0 where
@@ -65,6 +66,7 @@ rows =
     ∷ row 4 0 0 (λ n p. JoinChains (n 0) (n 1) (n 2) (n 3))
     ∷ row 6 0 0 (λ n p. JoinResidues (n 0) (n 1) (n 2) (n 3) (n 4) (n 5))
     ∷ row 8 0 0 (λ n p. JoinConformers (n 0) (n 1) (n 2) (n 3) (n 4) (n 5) (n 6) (n 7))
+    ∷ row 6 0 0 (λ n p. SetElement (n 0) (n 1) (n 2) (n 3) (n 4) (n 5))
     ∷ []
 
 abbrev pub isCode : ℕ → Bool

@@ -66,7 +66,7 @@ pub record Facts (n : ℕ) (calls : List Call) (answers : List (List ℕ)) (m : 
 
 -- ---- the claim
 
--- "For every list of the sixteen edit calls, refused ones included": the words of the list stand for calls
+-- every list of the edit calls, "refused ones included": the words of the list stand for calls
 pub record Claim (n : ℕ) (list start A B : List ℕ) (s : Seen) : Type 0 where
   pub calls : List Call
   pub read : readCalls list ≡ some calls

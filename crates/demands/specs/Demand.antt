@@ -12,7 +12,7 @@ use Rattle.machine.specs.Edit.{Call, machineAfter, machineAnswers, storeAfter, 
 use Rattle.machine.specs.Demand.{added, removed}
 use Rattle.demands.specs.Queries.{Queries, runsOf}
 
--- ---- what is claimed: w is any words that opening accepts, and calls any list of the sixteen edits
+-- ---- what is claimed: w is any words that opening accepts, and calls any list of edits
 
 module _ (w : List ℕ) (calls : List Call) where
   -- the store after the edits, and their answers

@@ -178,7 +178,7 @@ fn remove_empty(store: &mut [u64], words: &[u64]) -> Edited
 fn join(store: &mut [u64], code: u64, words: &[u64]) -> Edited
     requires { ⌜ Good (now store) ⌝ }
     requires { ⌜ isSome (readCall code (now words)) ≡ true ⌝ }
-    requires { ⌜ 13 ≤ code ⌝ }
+    requires { ⌜ (13 ≤ code) × (code ≤ 16) ⌝ }
     ensures { λ r. ⌜ some (editedNumbers r, now (store .exit)) ≡ Option·map (storeStep (now (store .entry))) (readCall code (now (words .entry))) ⌝ }
 {
     let end = words.len();
@@ -186,9 +186,18 @@ fn join(store: &mut [u64], code: u64, words: &[u64]) -> Edited
     joins::join_at(store, &words[0..half], &words[half..end])
 }
 
+// The words are an atom's position, then the element.
+fn set_element(store: &mut [u64], words: &[u64]) -> Edited
+    requires { ⌜ Good (now store) ⌝ }
+    requires { ⌜ isSome (readCall 17 (now words)) ≡ true ⌝ }
+    ensures { λ r. ⌜ some (editedNumbers r, now (store .exit)) ≡ Option·map (storeStep (now (store .entry))) (readCall 17 (now (words .entry))) ⌝ }
+{
+    settings::set_element(store, &words[0..5], words[5])
+}
+
 // ---- one call
 
-// By the code, which is not that of `AddAtom`; the last are the joins.
+// By the code, which is not that of `AddAtom`; the last arm has the joins, 13 to 16.
 pub fn run_call(store: &mut [u64], code: u64, words: &[u64], bytes: &[u8]) -> Edited
     requires { ⌜ Good (now store) ⌝ }
     requires { ⌜ (code ≡ 2 → ⊥) ⌝ }
@@ -205,6 +214,7 @@ pub fn run_call(store: &mut [u64], code: u64, words: &[u64], bytes: &[u8]) -> Ed
         10 => remove_atom_by_serial_number(store, words),
         11 => remove_atoms_by(store, words),
         12 => remove_empty(store, words),
+        17 => set_element(store, words),
         _ => join(store, code, words),
     }
 }

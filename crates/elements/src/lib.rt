@@ -19,7 +19,7 @@ impl Element {
     // Og
     pub const LAST: u64 = 118;
 
-    // "elements 1..118", as a tree's parameter is
+    // "elements 1..118", as a tree's parameter is, and an element that is set
     pub fn from_number(n: u64) -> MaybeElement
         ensures { λ r. ⌜ r ≡ elementOf n ⌝ }
     {

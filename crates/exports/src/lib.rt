@@ -21,12 +21,12 @@ use machine::NewAtom;
 use machine::WriteAnswer;
 use store::Checked;
 
-// 0.7.0: the millions are the major number, the thousands the minor one.
+// 0.8.0: the millions are the major number, the thousands the minor one.
 #[no_mangle]
 pub extern "C" fn jubrelti_version() -> u64
     ensures { λ r. ⌜ r ≡ version ⌝ }
 {
-    7_000
+    8_000
 }
 
 // 0 for a good store, else the refusal's number.
@@ -410,6 +410,22 @@ pub extern "C" fn jubrelti_remove_atoms_by(
     ensures { λ r. ⌜ (editFields r, now (store .exit)) ≡ storeStep (now (store .entry)) (Calls.RemoveAtomsBy model (now (tree .entry))) ⌝ }
 {
     let edited = structs::model::remove_atoms_by(store, model, tree);
+    answers::of_edited(edited)
+}
+
+#[no_mangle]
+pub extern "C" fn jubrelti_set_element(
+    store: &mut [u64],
+    model: u64,
+    chain: u64,
+    residue: u64,
+    conformer: u64,
+    atom: u64,
+    element: u64,
+) -> EditAnswer
+    ensures { λ r. ⌜ (editFields r, now (store .exit)) ≡ storeStep (now (store .entry)) (Calls.SetElement model chain residue conformer atom element) ⌝ }
+{
+    let edited = structs::atom::set_element(store, model, chain, residue, conformer, atom, element);
     answers::of_edited(edited)
 }
 

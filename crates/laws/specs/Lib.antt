@@ -18,4 +18,6 @@ pub mod Width
 pub mod Columns
 pub mod Flat
 pub mod Places
+pub mod Sites
+pub mod Elements
 pub mod Steps

@@ -8,7 +8,7 @@ use native.Mathlib.Nat.{add-zero, add-assoc}
 use native.Mathlib.Omega.{arith}
 use lib.ListN.{length, getD, length-append, length-map}
 use lib.Seq.{getD-at}
-use Rattle.machine.specs.Lists.{filter, sum, nth, concatMap, concatMapFrom}
+use Rattle.machine.specs.Lists.{filter, sum, nth, splice, concatMap, concatMapFrom}
 use Rattle.machine.specs.Record.{Fields}
 use Rattle.machine.specs.Store.{Branch, Machine, flat, atomCount, stored}
 use Rattle.machine.specs.Kleene.{isHit}
@@ -21,12 +21,31 @@ use Rattle.laws.specs.Places.{Around, around}
 
 -- ---- branches with their record numbers
 
--- the i-th branch has the number of its first record
-pub nth-numbered : (k i n : ℕ) (ts : List (Branch k)) (t : Branch k) (e : nth i ts ≡ some t) → nth i (numbered k n ts) ≡ some (n + length (concatMap (flat k) (around i ts t e .before)), t)
+-- the i-th branch has the number of its first record; so has another in its place
+pub numbered-put : (k i n : ℕ) (f : Branch k → Branch k) (ts : List (Branch k)) (t : Branch k) (e : nth i ts ≡ some t)
+    → nth i (numbered k n (splice i (λ u. f u ∷ []) ts)) ≡ some (n + length (concatMap (flat k) (around i ts t e .before)), f t)
 unfolding numbered around
-nth-numbered k i n [] t e = let z : _≡_ {A = ℕ} 0 1 = cc in absurd (omega arith)
-nth-numbered k zero n (u ∷ ts) t e = let q : u ≡ t = cc in rw (add-zero, q)
-nth-numbered k (suc i) n (u ∷ ts) t e = nth-numbered k i (n + size k u) ts t e ∙ rw (length-append (flat k u), add-assoc)
+numbered-put k i n f [] t e = let z : _≡_ {A = ℕ} 0 1 = cc in absurd (omega arith)
+numbered-put k zero n f (u ∷ ts) t e = let q : u ≡ t = cc in rw (add-zero, q)
+numbered-put k (suc i) n f (u ∷ ts) t e = numbered-put k i (n + size k u) f ts t e ∙ rw (length-append (flat k u), add-assoc)
+
+splice-same : {A : Type 0} (i : ℕ) (xs : List A) → splice i (λ x. x ∷ []) xs ≡ xs
+splice-same i [] = refl
+splice-same zero (x ∷ xs) = refl
+splice-same {A} (suc i) (x ∷ xs) = ap (λ (l : List A). x ∷ l) (splice-same i xs)
+
+pub nth-numbered : (k i n : ℕ) (ts : List (Branch k)) (t : Branch k) (e : nth i ts ≡ some t) → nth i (numbered k n ts) ≡ some (n + length (concatMap (flat k) (around i ts t e .before)), t)
+nth-numbered k i n ts t e = ap (λ (us : List (Branch k)). nth i (numbered k n us)) (sym (splice-same i ts)) ∙ numbered-put k i n (λ u. u) ts t e
+
+-- one of as many records moves no other
+pub numbered-other : (k i j n : ℕ) (f : Branch k → Branch k) (ts : List (Branch k)) (t : Branch k) → nth i ts ≡ some t → size k (f t) ≡ size k t → (i ≡ j → ⊥)
+    → nth j (numbered k n (splice i (λ u. f u ∷ []) ts)) ≡ nth j (numbered k n ts)
+unfolding numbered
+numbered-other k i j n f [] t e s h = refl
+numbered-other k zero zero n f (u ∷ ts) t e s h = absurd (h refl)
+numbered-other k zero (suc j) n f (u ∷ ts) t e s h = let q : u ≡ t = cc in rw q (ap (λ (z : ℕ). nth j (numbered k (n + z) ts)) s)
+numbered-other k (suc i) zero n f (u ∷ ts) t e s h = refl
+numbered-other k (suc i) (suc j) n f (u ∷ ts) t e s h = numbered-other k i j (n + size k u) f ts t e s (λ q. h (ap suc q))
 
 pub no-numbered : (k i n : ℕ) (ts : List (Branch k)) → nth i ts ≡ none → nth i (numbered k n ts) ≡ none
 unfolding numbered

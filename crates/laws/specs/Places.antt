@@ -9,9 +9,9 @@ use lib.ListN.{length}
 use lib.Dec.{eqb}
 use borrow.Author.Tests.{eqb-true, eqb-false, eq-eqb}
 use Rattle.machine.specs.Lists.{all, sum, concatMap, nth, splice, andThen, same}
-use Rattle.machine.specs.Record.{Words, words, goodFields}
+use Rattle.machine.specs.Record.{Fields, Words, words, goodFields}
 use Rattle.machine.specs.Store.{Branch, flat, atomCount}
-use Rattle.machine.specs.Edit.{up, branchAt, replaceAt}
+use Rattle.machine.specs.Edit.{up, branchAt, replaceAt, root, withFields}
 use Rattle.laws.specs.Lists.{and-both, and-true, and-then, All-of, all-of, All-append, sum-append, concatMap-append, length-concatMap}
 use Rattle.laws.specs.Good.{goodBranch}
 
@@ -71,22 +71,23 @@ and-then-map f g h none = refl
 and-then-map f g h (some x) = h x
 
 -- the branch at the first index of a longer position, and the rest of the way
-step-down : (d j i : ℕ) (is : List ℕ) (ts : List (Branch (suc (up d j)))) (t : Branch j) → branchAt (suc d) j (i ∷ is) ts ≡ some t
+pub step-down : (d j i : ℕ) (is : List ℕ) (ts : List (Branch (suc (up d j)))) (t : Branch j) → branchAt (suc d) j (i ∷ is) ts ≡ some t
     → (u : Branch (suc (up d j))) × (nth i ts ≡ some u) × (branchAt d j is (u .1) ≡ some t)
 unfolding branchAt
 step-down d j i is ts t e = and-then (nth i ts) (λ u. branchAt d j is (u .1)) t e
 
-no-branch : (d j : ℕ) (ts : List (Branch (up d j))) (t : Branch j) → branchAt d j [] ts ≡ some t → ⊥
+pub no-branch : (d j : ℕ) (ts : List (Branch (up d j))) (t : Branch j) → branchAt d j [] ts ≡ some t → ⊥
 unfolding branchAt
 no-branch d j ts t e = let z : _≡_ {A = ℕ} 0 1 = cc in omega arith
 
 -- ---- measures
 
--- a number of each branch: its record's own, which depends on the level alone, and its children's
+-- a number of each branch: its record's own, which depends on the level alone, and its children's; atoms count alike
 pub record Measure : Type 0 where
   pub of : (k : ℕ) → Branch k → ℕ
   pub own : ℕ → ℕ
   pub splits : (k : ℕ) (t : Branch (suc k)) → of (suc k) t ≡ own k + sum (of k) (t .1)
+  pub alike : (a b : Branch 0) → of 0 a ≡ of 0 b
 
 pub flat-splits : (k : ℕ) (t : Branch (suc k)) → length (flat (suc k) t) ≡ 1 + sum (λ u. length (flat k u)) (t .1)
 unfolding flat
@@ -96,12 +97,25 @@ pub atom-splits : (k : ℕ) (t : Branch (suc k)) → atomCount (suc k) t ≡ 0 +
 unfolding atomCount
 atom-splits k t = omega arith
 
+pub flat-alike : (a b : Branch 0) → length (flat 0 a) ≡ length (flat 0 b)
+unfolding flat
+flat-alike a b = refl
+
+pub atom-alike : (a b : Branch 0) → atomCount 0 a ≡ atomCount 0 b
+unfolding atomCount
+atom-alike a b = refl
+
 -- how many records a branch has, and how many atoms
 abbrev pub size : Measure
-size = record { of = λ k t. length (flat k t); own = λ k. 1; splits = flat-splits }
+size = record { of = λ k t. length (flat k t); own = λ k. 1; splits = flat-splits; alike = flat-alike }
 
 abbrev pub atoms : Measure
-atoms = record { of = atomCount; own = λ k. 0; splits = atom-splits }
+atoms = record { of = atomCount; own = λ k. 0; splits = atom-splits; alike = atom-alike }
+
+-- other fields change no measure
+pub same-measure : (μ : Measure) (j : ℕ) (f : Fields j) (t : Branch j) → μ .of j (withFields j f t) ≡ μ .of j t
+same-measure μ zero f t = μ .alike f t
+same-measure μ (suc k) f t = μ .splits k (f, t .1) ∙ sym (μ .splits k t)
 
 -- what a measure gains and loses where a branch gives way to others
 pub replace-sum : (μ : Measure) (d j : ℕ) (pos : List ℕ) (new : List (Branch j)) (ts : List (Branch (up d j))) (t : Branch j) → branchAt d j pos ts ≡ some t
@@ -124,7 +138,18 @@ pub good-parts : (k : ℕ) (t : Branch (suc k)) → goodBranch (suc k) t ≡ tru
 unfolding goodBranch
 good-parts k t h = and-both (goodFields (suc k) (t .0)) (all (goodBranch k) (t .1)) h
 
--- a branch stays good with other good children
+pub root-good : (j : ℕ) (t : Branch j) → goodBranch j t ≡ true → goodFields j (root j t) ≡ true
+unfolding goodBranch
+root-good zero t h = h
+root-good (suc k) t h = good-parts k t h .0
+
+-- a branch stays good with other good fields
+pub fields-good : (j : ℕ) (f : Fields j) (t : Branch j) → goodBranch j t ≡ true → goodFields j f ≡ true → goodBranch j (withFields j f t) ≡ true
+unfolding goodBranch
+fields-good zero f t h g = g
+fields-good (suc k) f t h g = and-true g (good-parts k t h .1)
+
+-- and with other good children
 pub good-children : (k : ℕ) (t : Branch (suc k)) (us : List (Branch k)) → goodBranch (suc k) t ≡ true → all (goodBranch k) us ≡ true → goodBranch (suc k) (t .0, us) ≡ true
 unfolding goodBranch
 good-children k t us h g = and-true (good-parts k t h .0) g

@@ -1,4 +1,4 @@
--- Each of the sixteen calls keeps a machine good and within its store, and counts its atoms right. Assumes nothing.
+-- Each of the calls keeps a machine good and within its store, and counts its atoms right. Assumes nothing.
 use Prim.Native.Nat.{ℕ, zero, suc, _+_, _≤_}
 use mathlib.Core.Path.{_≡_, refl, sym, ap, _∙_}
 use mathlib.Core.Bool.{Bool, true, false, not, _&&_, cond, or-true}
@@ -11,10 +11,10 @@ use borrow.Author.Tests.{leb-true, ne-eqb, not-true}
 use Rattle.machine.specs.Lists.{isEmpty, orElse, all, sum, keep, filter, nth, splice, firstWhere, lastWhere, same}
 use Rattle.machine.specs.Answer.{Result, ok, refused, _>>=_, _>>_, need, position, refusalNumber}
 use Rattle.machine.specs.Text.{Optional, chainId, insertionCode, conformerName, alternativeLocation, atomName, plain, trim, toUpper, pack, fit, uppercaseOr, byFlag, optional, storedBy, absentOr}
-use Rattle.machine.specs.Record.{Fields, goodFields, goodValues}
+use Rattle.machine.specs.Record.{Fields, Atom, finite, isElement, goodFields, goodValues}
 use Rattle.machine.specs.Store.{Branch, Machine, records, flat, stored, capacity, atomCount}
 use Rattle.machine.specs.Query.{readTree}
-use Rattle.machine.specs.Edit.{Addition, Call, AddModel, AddAtom, RemoveChain, RemoveResidue, RemoveConformer, RemoveAtom, RemoveChainById, RemoveResidueById, RemoveConformerById, RemoveAtomBySerialNumber, RemoveAtomsBy, RemoveEmpty, JoinModels, JoinChains, JoinResidues, JoinConformers, Change, up, branchAt, replaceAt, fits, addModel, accept, prepare, newAtom, Which, first, last, pick, putIn, upsert, intoChains, addPrepared, addAtom, removeAt, root, withChildren, without, removeFirst, withFound, keepAtoms, removeAtomsBy, nonEmpty, removeEmpty, joinAt, withMachine, machineStep, answer, next}
+use Rattle.machine.specs.Edit.{Addition, Call, AddModel, AddAtom, RemoveChain, RemoveResidue, RemoveConformer, RemoveAtom, RemoveChainById, RemoveResidueById, RemoveConformerById, RemoveAtomBySerialNumber, RemoveAtomsBy, RemoveEmpty, JoinModels, JoinChains, JoinResidues, JoinConformers, SetElement, Change, up, branchAt, replaceAt, fits, addModel, accept, prepare, newAtom, Which, first, last, pick, putIn, upsert, intoChains, addPrepared, addAtom, removeAt, root, withChildren, without, removeFirst, withFound, keepAtoms, removeAtomsBy, nonEmpty, removeEmpty, joinAt, withMachine, withFields, refielded, setAt, withElement, fillIn, machineStep, answer, next}
 use Rattle.machine.specs.declared.Refusal.{Refusal}
 use Rattle.machine.specs.declared.Refusal.the-variants.{BadLength, BrokenLayout, TreeShape, TreeNode, NoPosition, BadIdentifier, BadValue, NoCapacity, JoinWithItself, ShortOutput, BadFile, TooWide, ShortText, BadInsertionCode, BadConformer, BadAtomName, BadList, ShortAnswers}
 use Rattle.machine.specs.declared.Name.{Name}
@@ -26,7 +26,7 @@ use Rattle.machine.specs.Demand.{addedBy, removedBy}
 use Rattle.laws.specs.Lists.{and-both, and-true, sum-append, length-concatMap}
 use Rattle.laws.specs.Good.{goodBranch, Fit}
 use Rattle.laws.specs.Text.{chainId-stored, insertionCode-stored, conformerName-stored, alternativeLocation-stored, atomName-stored}
-use Rattle.laws.specs.Places.{Measure, size, atoms, splice-sum, splice-all, all-append, good-parts, good-children, replace-sum, replace-all, branch-good, branchAt-other}
+use Rattle.laws.specs.Places.{Measure, size, atoms, splice-sum, splice-all, all-append, good-parts, good-children, replace-sum, replace-all, branch-good, branchAt-other, same-measure, root-good, fields-good}
 
 -- ---- results
 
@@ -185,6 +185,45 @@ module _ (d j : ℕ) (a b : List ℕ) (m : List (Branch (up d (suc j)))) (la : l
       (λ t e. if-concatMap _ (position (branchAt d (suc j) b m)) _
       (λ u f. if-then _ (need (not (same a b)) JoinWithItself) _
       (λ v g. holds (joined-less t u (position-some _ t e) (position-some _ u f) (not-true (same a b) (need-true _ _ v g))))))
+
+-- ---- one record's own fields
+
+refielded-less : (d j : ℕ) (pos : List ℕ) (t : Branch j) (o : Option (Fields j)) (m : List (Branch (up d j))) → branchAt d j pos m ≡ some t
+    → ((f : Fields j) → o ≡ some f → goodFields j (root j t) ≡ true → goodFields j f ≡ true) → Less (up d j) m (refielded d j pos t o m .1)
+refielded-less d j pos t none m e h = less-same (up d j) m
+refielded-less d j pos t (some f) m e h = record {
+  good = λ g.
+      let b = branch-good d j pos m t e g in
+      replace-all d j pos (withFields j f t ∷ []) m g (and-true (fields-good j f t b (h f refl (root-good j t b))) refl);
+  fewer = λ μ. omega (arith, replace-sum μ d j pos (withFields j f t ∷ []) m t e, same-measure μ j f t);
+}
+
+-- f makes good fields of good ones
+setAt-less : (d j : ℕ) (pos : List ℕ) (f : Fields j → Result (Option (Fields j))) (m : List (Branch (up d j)))
+    → ((x y : Fields j) → f x ≡ ok (some y) → goodFields j x ≡ true → goodFields j y ≡ true)
+    → IfOk (λ c. Less (up d j) m (c .1)) (setAt d j pos f m)
+unfolding setAt
+setAt-less d j pos f m h =
+    if-concatMap _ (position (branchAt d j pos m)) _
+    (λ t e. if-concatMap _ (f (root j t)) _
+    (λ o g. holds (refielded-less d j pos t o m (position-some _ t e) (λ y q. h (root j t) y (rw q at g)))))
+
+element-good : (e : ℕ) (a : Atom) → leb e 118 ≡ true → goodFields 0 a ≡ true → goodFields 0 (withElement e a) ≡ true
+unfolding goodFields goodValues
+element-good e a l g =
+    let floats = all finite (a .x ∷ a .y ∷ a .z ∷ a .occupancy ∷ a .«b_factor» ∷ []) in
+    let b = and-both (storedBy atomName (a .name)) (goodValues a) g in
+    let v = and-both (floats && leb (a .element) 118) (leb (a .hetero) 1) (b .1) in
+    let w = and-both floats (leb (a .element) 118) (v .0) in
+    and-true (b .0) (and-true (and-true (w .0) l) (v .1))
+
+fillIn-good : (e : ℕ) (a b : Atom) → fillIn e a ≡ ok (some b) → goodFields 0 a ≡ true → goodFields 0 b ≡ true
+fillIn-good e a b h g = go (isElement e) refl (eqb (a .element) 0) h
+  where
+    go : (c : Bool) → isElement e ≡ c → (z : Bool) → (need c BadValue >> ok (cond z (some (withElement e a)) none)) ≡ ok (some b) → goodFields 0 b ≡ true
+    go false p z q = let n : _≡_ {A = ℕ} 0 1 = cc in absurd (omega arith)
+    go true p false q = let n : _≡_ {A = ℕ} 0 1 = cc in absurd (omega arith)
+    go true p true q = let i : withElement e a ≡ b = cc in rw i at (element-good e a (and-both (leb 1 e) (leb e 118) p .1) g)
 
 -- ---- additions
 
@@ -440,6 +479,7 @@ step n m (JoinModels i i′) = machine-step n m _ (λ l. refl) _ (joinAt-less 0 
 step n m (JoinChains i c i′ c′) = machine-step n m _ (λ l. refl) _ (joinAt-less 1 2 (i ∷ c ∷ []) (i′ ∷ c′ ∷ []) m refl refl)
 step n m (JoinResidues i c r i′ c′ r′) = machine-step n m _ (λ l. refl) _ (joinAt-less 2 1 (i ∷ c ∷ r ∷ []) (i′ ∷ c′ ∷ r′ ∷ []) m refl refl)
 step n m (JoinConformers i c r f i′ c′ r′ f′) = machine-step n m _ (λ l. refl) _ (joinAt-less 3 0 (i ∷ c ∷ r ∷ f ∷ []) (i′ ∷ c′ ∷ r′ ∷ f′ ∷ []) m refl refl)
+step n m (SetElement i c r f a e) = found-step n m _ (λ l. refl) _ (setAt-less 4 0 (i ∷ c ∷ r ∷ f ∷ a ∷ []) (fillIn e) m (fillIn-good e))
 
 -- each call keeps a machine good and within its store
 pub step-keeps : (n : ℕ) (m : Machine) (c : Call) → Fit n m → Fit n (next m (machineStep n m c))

@@ -2,14 +2,15 @@
 use Prim.Native.Nat.{ℕ, zero, suc, _+_, _<_}
 use mathlib.Core.Path.{_≡_}
 use mathlib.Core.Bool.{Bool, true, false, _&&_, cond}
-use mathlib.Core.List.{List, [], _∷_}
+use mathlib.Core.Logic.{_⊎_}
+use mathlib.Core.List.{List, [], _∷_, _++_}
 use lib.ListN.{length, getD, take, drop}
 use lib.Dec.{eqb}
 use Rattle.machine.specs.Lists.{any, filter, sum, same}
 use Rattle.machine.specs.Kleene.{isUndecided}
 use Rattle.machine.specs.Query.{Names}
 use Rattle.machine.specs.Find.{Site, valueFrom}
-use Rattle.machine.specs.Edit.{Call, AddModel, AddAtom, RemoveChain, RemoveResidue, RemoveConformer, RemoveAtom, RemoveChainById, RemoveResidueById, RemoveConformerById, RemoveAtomBySerialNumber, RemoveAtomsBy, RemoveEmpty, JoinModels, JoinChains, JoinResidues, JoinConformers}
+use Rattle.machine.specs.Edit.{Call, AddModel, AddAtom, RemoveChain, RemoveResidue, RemoveConformer, RemoveAtom, RemoveChainById, RemoveResidueById, RemoveConformerById, RemoveAtomBySerialNumber, RemoveAtomsBy, RemoveEmpty, JoinModels, JoinChains, JoinResidues, JoinConformers, SetElement}
 
 -- "a call is accepted when its result is 0"
 abbrev pub accepts : List ℕ → Bool
@@ -34,6 +35,7 @@ isAddAtom (JoinModels i i′) = false
 isAddAtom (JoinChains i c i′ c′) = false
 isAddAtom (JoinResidues i c r i′ c′ r′) = false
 isAddAtom (JoinConformers i c r f i′ c′ r′ f′) = false
+isAddAtom (SetElement i c r f a e) = false
 
 abbrev pub addedBy : Call → List ℕ → ℕ
 addedBy c numbers = cond (isAddAtom c && accepts numbers) 1 0
@@ -76,6 +78,17 @@ listed hs h = any (same h) hs
 -- "Two lists share a hit if all five numbers agree; the shared ones, in their order"
 unfoldable pub shared : List (List ℕ) → List (List ℕ) → List (List ℕ)
 shared gs hs = filter (listed hs) gs
+
+-- change request §6, of a list of hits: "loses exactly that atom"
+pub record Loses (hit : List ℕ) (before after : List (List ℕ)) : Type 0 where
+  pub ahead : List (List ℕ)
+  pub behind : List (List ℕ)
+  pub was : before ≡ ahead ++ (hit ∷ behind)
+  pub is : after ≡ ahead ++ behind
+
+-- "the hit list either stays the same or loses exactly that atom"
+abbrev pub StaysOrLoses : List ℕ → List (List ℕ) → List (List ℕ) → Type 0
+StaysOrLoses hit before after = (after ≡ before) ⊎ Loses hit before after
 
 abbrev pub atomNumber : List ℕ → ℕ
 atomNumber hit = getD hit 4 0

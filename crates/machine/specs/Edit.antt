@@ -1,7 +1,7 @@
--- Document 01, "Edits": the plain machine's sixteen calls, and a store's. Checks stand in the order of their refusals.
+-- Document 01, "Edits": the plain machine's calls, and a store's. Checks stand in the order of their refusals.
 -- Assumes nothing.
 use Prim.Native.Nat.{ℕ, zero, suc, _-_}
-use mathlib.Core.Bool.{Bool, not, _&&_}
+use mathlib.Core.Bool.{Bool, not, _&&_, cond}
 use mathlib.Core.List.{List, [], _∷_, _++_, map}
 use mathlib.Core.Option.{Option, none, some}
 use lib.ListN.{length}
@@ -9,7 +9,7 @@ use lib.Dec.{leb, eqb}
 use Rattle.machine.specs.Lists.{isEmpty, filter, nth, splice, firstWhere, lastWhere, andThen, same}
 use Rattle.machine.specs.Answer.{Result, ok, refused, _>>=_, _>>_, need, position, ifRefused, badName, editedNumbers}
 use Rattle.machine.specs.Text.{Optional, chainId, insertionCode, conformerName, alternativeLocation, atomName, optional, goodFlag, matches, matchesOptional}
-use Rattle.machine.specs.Record.{Fields, Atom, Conformer, Residue, Chain, goodValues}
+use Rattle.machine.specs.Record.{Fields, Atom, Conformer, Residue, Chain, isElement, goodValues}
 use Rattle.machine.specs.Store.{Branch, Machine, records, stored, capacity, layOut, readStore}
 use Rattle.machine.specs.Kleene.{isTrue}
 use Rattle.machine.specs.Query.{readTree, treeValue, termValue, tables}
@@ -39,7 +39,7 @@ abbrev pub addition : List ℕ → ℕ → Optional → List ℕ → Optional �
 addition chain residue code conformer location name values =
     record { chain = chain; residue = residue; code = code; conformer = conformer; location = location; name = name; values = values }
 
--- "The sixteen edit calls". A position goes from the model down; texts and flags follow it
+-- "The sixteen edit calls", and change request §6's. A position goes from the model down; texts and flags follow it
 pub data Call : Type 0 where
   AddModel : (serial : ℕ) → Call
   AddAtom : (model : ℕ) → Addition → Call
@@ -57,6 +57,7 @@ pub data Call : Type 0 where
   JoinChains : (model chain : ℕ) → (model′ chain′ : ℕ) → Call
   JoinResidues : (model chain residue : ℕ) → (model′ chain′ residue′ : ℕ) → Call
   JoinConformers : (model chain residue conformer : ℕ) → (model′ chain′ residue′ conformer′ : ℕ) → Call
+  SetElement : (model chain residue conformer atom : ℕ) → (element : ℕ) → Call
 
 -- "Each result carries found", here with the machine afterwards
 pub record Change : Type 0 where
@@ -248,6 +249,44 @@ joinAt d j a b m = do
 abbrev pub withMachine : Result Machine → Result Change
 withMachine r = r >>= λ m. ok (changed m)
 
+-- ---- one record's own fields
+
+-- a branch with other fields
+abbrev pub withFields : (j : ℕ) → Fields j → Branch j → Branch j
+withFields zero f t = f
+withFields (suc k) f t = (f, t .1)
+
+-- found 1 where the branch at a position gets other fields, and found 0 where it stays as it is
+abbrev pub refielded : (d j : ℕ) → List ℕ → Branch j → Option (Fields j) → List (Branch (up d j)) → ℕ × List (Branch (up d j))
+refielded d j pos t none m = (0, m)
+refielded d j pos t (some f) m = (1, replaceAt d j pos (withFields j f t ∷ []) m)
+
+-- the position, then what f says of the fields there: a refusal, other fields, or none
+unfoldable pub setAt : (d j : ℕ) → List ℕ → (Fields j → Result (Option (Fields j))) → List (Branch (up d j)) → Result (ℕ × List (Branch (up d j)))
+setAt d j pos f m = do
+  t ← position (branchAt d j pos m)
+  o ← f (root j t)
+  ok (refielded d j pos t o m)
+
+abbrev pub withElement : ℕ → Atom → Atom
+withElement e a =
+    record {
+      serial = a .serial;
+      name = a .name;
+      x = a .x;
+      y = a .y;
+      z = a .z;
+      occupancy = a .occupancy;
+      «b_factor» = a .«b_factor»;
+      element = e;
+      charge = a .charge;
+      hetero = a .hetero;
+    }
+
+-- change request §6: "an element outside 1 to 118 gives 7"; "Setting it where one is present changes nothing and gives found 0."
+abbrev pub fillIn : ℕ → Atom → Result (Option Atom)
+fillIn e a = need (isElement e) BadValue >> ok (cond (eqb (a .element) 0) (some (withElement e a)) none)
+
 -- ---- one call
 
 -- the machine, in a store of n words
@@ -270,6 +309,7 @@ machineStep n m (JoinModels i i′) = withMachine (joinAt 0 3 (i ∷ []) (i′ �
 machineStep n m (JoinChains i c i′ c′) = withMachine (joinAt 1 2 (i ∷ c ∷ []) (i′ ∷ c′ ∷ []) m)
 machineStep n m (JoinResidues i c r i′ c′ r′) = withMachine (joinAt 2 1 (i ∷ c ∷ r ∷ []) (i′ ∷ c′ ∷ r′ ∷ []) m)
 machineStep n m (JoinConformers i c r f i′ c′ r′ f′) = withMachine (joinAt 3 0 (i ∷ c ∷ r ∷ f ∷ []) (i′ ∷ c′ ∷ r′ ∷ f′ ∷ []) m)
+machineStep n m (SetElement i c r f a e) = withFound (setAt 4 0 (i ∷ c ∷ r ∷ f ∷ a ∷ []) (fillIn e) m)
 
 -- "removed, the atom records before minus those after; an addition gives removed 0", as natural numbers subtract
 abbrev pub answer : Machine → Result Change → List ℕ
@@ -290,7 +330,7 @@ stepBy w step =
       c ← step m
       ok (answer m (ok c), layOut (length w) (c .after)))
 
--- one of the sixteen calls
+-- one of the calls
 unfoldable pub storeStep : List ℕ → Call → List ℕ × List ℕ
 storeStep w c = stepBy w (λ m. machineStep (length w) m c)
 

@@ -13,7 +13,7 @@ use Rattle.machine.specs.Record.{Words, words, fieldsOf, goodValues, goo
 use Rattle.machine.specs.Store.{flat, atomCount, laid, layOut, inOrder, goodLayout, sections, group, readStore, openRun}
 use Rattle.machine.specs.Query.{codes, nodeOf, nodesOf, run, leavesOne, readTree, treeValue, termValue, window, tables, packedName}
 use Rattle.machine.specs.Find.{enter, numbered, atomsIn, atomsUnder, hitsFrom, findRun, findFrom}
-use Rattle.machine.specs.Edit.{addition, Call, AddModel, AddAtom, RemoveChain, RemoveAtom, RemoveChainById, RemoveResidueById, RemoveConformerById, RemoveAtomBySerialNumber, RemoveAtomsBy, RemoveEmpty, JoinModels, JoinResidues, branchAt, replaceAt, addModel, prepare, upsert, addPrepared, removeAt, removeFirst, keepAtoms, removeAtomsBy, nonEmpty, removeEmpty, joinAt, machineStep, stepBy, storeStep, storeAfter, storeAnswers}
+use Rattle.machine.specs.Edit.{addition, Call, AddModel, AddAtom, RemoveChain, RemoveAtom, RemoveChainById, RemoveResidueById, RemoveConformerById, RemoveAtomBySerialNumber, RemoveAtomsBy, RemoveEmpty, JoinModels, JoinResidues, SetElement, branchAt, replaceAt, addModel, prepare, upsert, addPrepared, removeAt, removeFirst, keepAtoms, removeAtomsBy, nonEmpty, removeEmpty, joinAt, setAt, machineStep, stepBy, storeStep, storeAfter, storeAnswers}
 use Rattle.machine.specs.Lookup.{serials, lookupIn, lookupRun}
 use Rattle.machine.specs.Program.{readInput, digits, printed, programRun}
 use Rattle.machine.specs.Cases.{record12, store, S, renamed, node, element7, found, absent, present, atom, zeros, atomRecord, file, eightBytes, Case}
@@ -103,6 +103,17 @@ twoLocations first second = storeAfter (zeros 97) (AddModel 1 ∷ AddAtom 0 (ato
 
 abbrev oneModel : List ℕ
 oneModel = store 73 (record12 (1 ∷ 1 ∷ []) ∷ [])
+
+-- one atom `XX` with these words from its element on
+abbrev oneAtom : List ℕ → List ℕ
+oneAtom words =
+    store 61
+    (record12 (1 ∷ 1 ∷ [])
+    ∷ record12 (2 ∷ packedName "A" ∷ [])
+    ∷ record12 (3 ∷ 7 ∷ [])
+    ∷ record12 (4 ∷ packedName "ALA" ∷ [])
+    ∷ record12 (5 ∷ 1 ∷ packedName "XX" ∷ 0 ∷ 0 ∷ 0 ∷ 0 ∷ 0 ∷ words)
+    ∷ [])
 
 -- ---- searches from lower down
 
@@ -246,6 +257,15 @@ examples =
     -- joins: nothing is merged; 5 comes before 9
     ∷ example (storeAfter twoModels (JoinModels 0 1 ∷ [])) twoChains
     ∷ example (lines (onS (JoinResidues 0 0 0 0 0 0 ∷ JoinResidues 0 0 1 0 0 1 ∷ []))) (9 ∷ 0 ∷ 0 ∷ 5 ∷ 0 ∷ 0 ∷ [])
+    -- an element is set where it is missing, and no word beside it; where there is one, it stays, and found is 0
+    ∷ example (storeAfter (oneAtom (0 ∷ 3 ∷ 1 ∷ [])) (SetElement 0 0 0 0 0 8 ∷ [])) (oneAtom (8 ∷ 3 ∷ 1 ∷ []))
+    ∷ example (storeAfter (oneAtom (8 ∷ 3 ∷ 1 ∷ [])) (SetElement 0 0 0 0 0 7 ∷ [])) (oneAtom (8 ∷ 3 ∷ 1 ∷ []))
+    ∷ example (lines (onS (SetElement 0 0 0 0 1 118 ∷ SetElement 0 0 0 0 1 118 ∷ SetElement 0 0 0 0 0 1 ∷ []))) (0 ∷ 1 ∷ 0 ∷ 0 ∷ 0 ∷ 0 ∷ 0 ∷ 0 ∷ 0 ∷ [])
+    -- outside 1 to 118 it gives 7, where there is one too, and after 5
+    ∷ example (lines (onS (SetElement 0 0 0 0 1 0 ∷ SetElement 0 0 0 0 1 119 ∷ SetElement 0 0 0 0 0 119 ∷ SetElement 0 0 0 0 2 119 ∷ []))) (7 ∷ 0 ∷ 0 ∷ 7 ∷ 0 ∷ 0 ∷ 7 ∷ 0 ∷ 0 ∷ 5 ∷ 0 ∷ 0 ∷ [])
+    -- a list of hits then loses the atom, or stays
+    ∷ example (found (storeAfter S (SetElement 0 0 0 0 1 8 ∷ [])) element7) (4 ∷ [])
+    ∷ example (found (storeAfter S (SetElement 0 0 0 0 1 7 ∷ [])) element7) (4 ∷ 5 ∷ [])
     -- lookup: the first of equal serials, past an empty chain; no going back; the first model alone
     ∷ example (lookupRun serialStore 5 absent) (0 ∷ 1 ∷ 0 ∷ 2 ∷ 3 ∷ 4 ∷ 5 ∷ [])
     ∷ example (lookupRun serialStore 5 (present "B")) (replicate 7 0)
@@ -261,7 +281,7 @@ examples =
     ∷ []
 
 pub shown : map (λ (c : Case). c .given) examples ≡ map (λ (c : Case). c .stated) examples
-unfolding examples serialStore S renamed packed unpacked withoutZeros textOf trimStart trim chainId uppercaseOr atomName matches storedBy packedText words fieldsOf goodValues goodFields goodRecord readOut flat atomCount laid layOut inOrder goodLayout sections group readStore openRun codes nodeOf nodesOf run leavesOne readTree treeValue termValue tables window enter atomsIn atomsUnder hitsFrom findFrom branchAt replaceAt addModel prepare upsert addPrepared removeAt removeFirst keepAtoms removeAtomsBy nonEmpty removeEmpty joinAt machineStep stepBy storeStep storeAfter storeAnswers numbered serials lookupIn lookupRun readInput digits printed programRun ofBits sub lt before
+unfolding examples serialStore S renamed packed unpacked withoutZeros textOf trimStart trim chainId uppercaseOr atomName matches storedBy packedText words fieldsOf goodValues goodFields goodRecord readOut flat atomCount laid layOut inOrder goodLayout sections group readStore openRun codes nodeOf nodesOf run leavesOne readTree treeValue termValue tables window enter atomsIn atomsUnder hitsFrom findFrom branchAt replaceAt addModel prepare upsert addPrepared removeAt removeFirst keepAtoms removeAtomsBy nonEmpty removeEmpty joinAt setAt machineStep stepBy storeStep storeAfter storeAnswers numbered serials lookupIn lookupRun readInput digits printed programRun ofBits sub lt before
 shown = refl
 
 -- "over 65,536 bytes": the next multiple of 8 is refused

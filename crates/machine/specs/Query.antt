@@ -14,7 +14,7 @@ use mir.Val.{toZ}
 use Rattle.machine.specs.Lists.{any, nth, andThen, bytes}
 use Rattle.machine.specs.Answer.{Result, ok, refused, _>>=_, _>>_, need}
 use Rattle.machine.specs.Text.{pack, packedText}
-use Rattle.machine.specs.Record.{Model, Chain, Residue, Conformer, Atom, readOut}
+use Rattle.machine.specs.Record.{Model, Chain, Residue, Conformer, Atom, isElement, readOut}
 use Rattle.machine.specs.Kleene.{decided, notT, applyT}
 use Rattle.machine.specs.declared.Tri.{Tri}
 use Rattle.machine.specs.declared.Tri.the-variants.{False, Undecided}
@@ -36,7 +36,7 @@ goodParameter unused w = eqb w 0
 goodParameter number w = true
 goodParameter text w = packedText w
 goodParameter float w = true
-goodParameter element w = leb 1 w && leb w 118
+goodParameter element w = isElement w
 
 pub record Code : Type 0 where
   pub p : Parameter

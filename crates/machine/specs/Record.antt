@@ -95,6 +95,10 @@ isFinite (fin s m e) = true
 abbrev pub finite : ℕ → Bool
 finite b = isFinite (ofBits binary64 b)
 
+-- a number that names an element: "elements 1..118" in trees, and change request §6's "1 to 118"
+abbrev pub isElement : ℕ → Bool
+isElement n = leb 1 n && leb n 118
+
 -- what refusal 7 is about: the floats are finite, "element 1..118 or 0 missing", "hetero 0 or 1"
 unfoldable pub goodValues : Atom → Bool
 goodValues a =

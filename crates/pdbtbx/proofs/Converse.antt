@@ -1,5 +1,5 @@
 -- A call that document 01's machine accepts lies in the domain, and the crate doesn't panic on it: the two take the same steps. Assumes nothing.
-use Prim.Native.Nat.{ℕ, zero, suc}
+use Prim.Native.Nat.{ℕ, zero, suc, _≤_}
 use mathlib.Core.Path.{_≡_, refl, ap, _∙_}
 use mathlib.Core.Bool.{Bool, true, false, not, _&&_, false≢true}
 use mathlib.Core.List.{List, [], _∷_, _++_}
@@ -10,29 +10,30 @@ use borrow.Author.Tests.{leb-true}
 use Rattle.machine.specs.Lists.{all, same, nth, splice, andThen}
 use Rattle.machine.specs.Answer.{Result, ok, refused, _>>_, need, position, badName}
 use Rattle.machine.specs.Text.{goodFlag, matches, matchesOptional}
-use Rattle.machine.specs.Record.{Fields, goodValues}
+use Rattle.machine.specs.Record.{Fields, isElement, goodValues}
 use Rattle.machine.specs.Store.{Branch, Machine}
 use Rattle.machine.specs.Kleene.{isTrue}
 use Rattle.machine.specs.Query.{readTree, treeValue, termValue, tables}
 use Rattle.machine.specs.Find.{enter, nowhere}
-use Rattle.machine.specs.Edit.{Call, AddModel, AddAtom, RemoveChain, RemoveResidue, RemoveConformer, RemoveAtom, RemoveChainById, RemoveResidueById, RemoveConformerById, RemoveAtomBySerialNumber, RemoveAtomsBy, RemoveEmpty, JoinModels, JoinChains, JoinResidues, JoinConformers, Change, up, branchAt, replaceAt, root, removeFirst, prepare, newAtom, intoChains, machineStep}
+use Rattle.machine.specs.Edit.{Call, AddModel, AddAtom, RemoveChain, RemoveResidue, RemoveConformer, RemoveAtom, RemoveChainById, RemoveResidueById, RemoveConformerById, RemoveAtomBySerialNumber, RemoveAtomsBy, RemoveEmpty, JoinModels, JoinChains, JoinResidues, JoinConformers, SetElement, Change, up, branchAt, replaceAt, root, removeFirst, prepare, newAtom, intoChains, setAt, fillIn, machineStep}
 use Rattle.machine.specs.Edit as Plain
 use Rattle.machine.specs.declared.Refusal.{Refusal}
 use Rattle.machine.specs.declared.Refusal.the-variants.{BadValue, JoinWithItself}
 use Rattle.machine.specs.declared.Name.the-variants.{InsertionCode, AlternativeLocation}
-use Rattle.laws.specs.Lists.{All, All-of, All-map, and-then}
+use Rattle.laws.specs.Lists.{and-both, All, All-of, All-map, and-then}
 use Rattle.laws.specs.Good.{goodBranch}
 use Rattle.laws.specs.Places.{good-parts, branch-good}
 use Rattle.pdbtbx.specs.Std.{Answer}
 use Rattle.pdbtbx.specs.Structs.{Struct, PDB}
 use Rattle.pdbtbx.specs.Words.{saysOf, structOf, structsOf, pdbOf}
 use Rattle.pdbtbx.specs.Edits.{addAtom, addModel, atPosition, removeAt, removeById, removeAtomsBy, removeEmpty, join, joinAt}
-use Rattle.pdbtbx.specs.Calls.{optionOf, searchOf, chosen, sameChain, sameResidue, sameConformer, sameAtom, edit}
+use Rattle.pdbtbx.specs.Calls.{optionOf, searchOf, chosen, sameChain, sameResidue, sameConformer, sameAtom, fillElement, edit}
 use Rattle.pdbtbx.specs.Demand.{Flagged, InDomain}
 use Rattle.pdbtbx.proofs.Trees.{reads}
 use Rattle.pdbtbx.proofs.Vecs.{at-map}
 use Rattle.pdbtbx.proofs.Additions.{words, atom, atom-new, into-model, onModel}
-use Rattle.pdbtbx.proofs.Removals.{at-position, remove-at, by-id, struct-at, join-square, remove-empty, remove-atoms-by}
+use Rattle.pdbtbx.proofs.Removals.{at-position, remove-at, remove-by-id, struct-at, join-square, remove-empty, remove-atoms-by}
+use Rattle.pdbtbx.proofs.Setters.{fill-element}
 use Rattle.pdbtbx.proofs.Equal.{agree-chain, agree-residue, agree-conformer, agree-atom, chosen-value}
 use Rattle.pdbtbx.proofs.Accepted.{bind-ok, fine}
 
@@ -118,7 +119,7 @@ module _ (d j : ℕ) (pos : List ℕ) (m : List (Branch (up d (suc j)))) (good :
       let e = position-ok (branchAt d (suc j) pos m) (s .0) (s .1) in
       let g = good-parts j (s .0) (branch-good d (suc j) pos m (s .0) e good) .1 in
       let a : All (λ (u : Branch j). q (structOf j u) ≡ p (root j u)) (s .0 .1) = All-map agree (s .0 .1) (All-of (goodBranch j) (s .0 .1) g) in
-      (_, by-id j p q (s .0) a d pos m e)
+      (_, at-position (suc j) (removeById j q) (s .0) _ _ (remove-by-id j p q (s .0) a) d pos m e)
 
   -- its flag was good
   flag-good : (flag : Result (Unit {0})) (y : ℕ × List (Branch (up d (suc j)))) → removeFirst d j pos flag p m ≡ ok y → flag ≡ ok tt
@@ -129,6 +130,22 @@ flagged : (flag : ℕ) (x : Refusal) → need (leb flag 1) x ≡ ok tt → Flagg
 flagged zero x h = tt
 flagged (suc zero) x h = tt
 flagged (suc (suc n)) x h = let l = leb-true (suc (suc n)) 1 (need-ok (leb (suc (suc n)) 1) x tt h) in absurd (omega arith)
+
+-- the branch there, and what f gave for its fields
+sets : (d j : ℕ) (pos : List ℕ) (f : Fields j → Result (Option (Fields j))) (m : List (Branch (up d j))) (y : ℕ × List (Branch (up d j))) → setAt d j pos f m ≡ ok y
+    → (t : Branch j) × (branchAt d j pos m ≡ some t) × (o : Option (Fields j)) × (f (root j t) ≡ ok o)
+unfolding setAt
+sets d j pos f m y h =
+    let s = bind-ok (position (branchAt d j pos m)) _ y h in
+    let o = bind-ok (f (root j (s .0))) _ y (s .2) in
+    (s .0, position-ok (branchAt d j pos m) (s .0) (s .1), o .0, o .1)
+
+-- an element that was taken is an `Element`
+is-element : (e : ℕ) (a : Fields 0) (o : Option (Fields 0)) → fillIn e a ≡ ok o → (1 ≤ e) × (e ≤ 118)
+is-element e a o h =
+    let n = then-ok (need (isElement e) BadValue) _ o h in
+    let b = and-both (leb 1 e) (leb e 118) (need-ok (isElement e) _ (n .0) (n .1)) in
+    (leb-true 1 e (b .0), leb-true e 118 (b .1))
 
 not-same : (b : Bool) → not b ≡ true → b ≡ false
 not-same true h = absurd (false≢true h)
@@ -228,3 +245,8 @@ module _ (n : ℕ) (m : Machine) (good : all (goodBranch 4) m ≡ true) where
   no-panic (JoinConformers i c r f i′ c′ r′ f′) ch h =
       let x = joins 3 0 (i ∷ c ∷ r ∷ f ∷ []) (i′ ∷ c′ ∷ r′ ∷ f′ ∷ []) m _ (bind-ok (Plain.joinAt 3 0 (i ∷ c ∷ r ∷ f ∷ []) (i′ ∷ c′ ∷ r′ ∷ f′ ∷ []) m) _ ch h .1) in
       record { domain = x .apart; result = x .result; taken = x .taken }
+  no-panic (SetElement i c r f a e) ch h =
+      let pos = i ∷ c ∷ r ∷ f ∷ a ∷ [] in
+      let s = sets 4 0 pos (fillIn e) m _ (bind-ok (setAt 4 0 pos (fillIn e) m) _ ch h .1) in
+      let d = is-element e (s .0) (s .2) (s .3) in
+      by-position (SetElement i c r f a e) d (_, at-position 0 (fillElement e) (s .0) _ _ (fill-element e (d .0) (s .0)) 4 pos m (s .1))

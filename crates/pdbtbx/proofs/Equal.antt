@@ -15,7 +15,7 @@ use Rattle.machine.specs.Store.{Branch, Machine, records, capacity}
 use Rattle.machine.specs.Kleene.{isTrue}
 use Rattle.machine.specs.Query.{treeValue, termValue, tables}
 use Rattle.machine.specs.Find.{enter, nowhere}
-use Rattle.machine.specs.Edit.{Call, AddModel, AddAtom, RemoveChain, RemoveResidue, RemoveConformer, RemoveAtom, RemoveChainById, RemoveResidueById, RemoveConformerById, RemoveAtomBySerialNumber, RemoveAtomsBy, RemoveEmpty, JoinModels, JoinChains, JoinResidues, JoinConformers, up, branchAt, replaceAt, removeFirst, without, withChildren, root, keepAtoms, nonEmpty, machineStep}
+use Rattle.machine.specs.Edit.{Call, AddModel, AddAtom, RemoveChain, RemoveResidue, RemoveConformer, RemoveAtom, RemoveChainById, RemoveResidueById, RemoveConformerById, RemoveAtomBySerialNumber, RemoveAtomsBy, RemoveEmpty, JoinModels, JoinChains, JoinResidues, JoinConformers, SetElement, up, branchAt, replaceAt, removeFirst, withChildren, root, keepAtoms, nonEmpty, setAt, fillIn, machineStep}
 use Rattle.machine.specs.Edit as Plain
 use Rattle.machine.specs.declared.Refusal.{Refusal}
 use Rattle.machine.specs.declared.Refusal.the-variants.{NoCapacity}
@@ -30,13 +30,14 @@ use Rattle.pdbtbx.specs.Words.{string, saysOf, structOf, structsOf, pdbO
 use Rattle.pdbtbx.specs.Search.{isKnown, complete, addInfo}
 use Rattle.pdbtbx.specs.Matches.{matchesAt}
 use Rattle.pdbtbx.specs.Edits.{addModel, atPosition, removeAt, removeById, removeAtomsBy, removeEmpty, joinAt}
-use Rattle.pdbtbx.specs.Calls.{optionOf, searchOf, chosen, sameChain, sameResidue, sameConformer, sameAtom, edit}
+use Rattle.pdbtbx.specs.Calls.{optionOf, searchOf, chosen, sameChain, sameResidue, sameConformer, sameAtom, fillElement, edit}
 use Rattle.pdbtbx.specs.Demand.{Reads, Flagged, InDomain, bit}
 use Rattle.pdbtbx.proofs.Values.{value-same, over-open, untold, add-value, add-complete}
 use Rattle.pdbtbx.proofs.Hits.{toldAt, told-value}
 use Rattle.pdbtbx.proofs.Names.{matches-given, both}
 use Rattle.pdbtbx.proofs.Additions.{add-atom}
-use Rattle.pdbtbx.proofs.Removals.{at-position, no-position, remove-at, remove-nowhere, isSome, index, by-id, by-id-found, join-at, remove-empty, remove-atoms-by}
+use Rattle.pdbtbx.proofs.Removals.{at-position, no-position, remove-at, remove-nowhere, isSome, index, withoutOne, remove-by-id, without-found, join-at, remove-empty, remove-atoms-by}
+use Rattle.pdbtbx.proofs.Setters.{withNew, refielded-found, filledIn, fill-in, fill-element}
 
 -- the machine's step, in a store of n words, gives the crate's answer and what stands for the crate's structure, unless it has no room for it
 pub record Same (n : ℕ) (m : Machine) (c : Call) (r : Bool × PDB) : Type 0 where
@@ -45,6 +46,12 @@ pub record Same (n : ℕ) (m : Machine) (c : Call) (r : Bool × PDB) : Type 0 wh
   pub unfit : fits ≡ false → leb (length (records after)) (capacity n) ≡ false
   pub stepped : machineStep n m c ≡ (need fits NoCapacity >> ok (record { found = bit (r .0); after = after }))
   pub held : r .1 ≡ pdbOf after
+
+-- the same for a step that says what it found, at any level
+record Found (k : ℕ) (s : Result (ℕ × List (Branch k))) (r : Bool × List (Struct k)) : Type 0 where
+  next : List (Branch k)
+  steps : s ≡ ok (bit (r .0), next)
+  held : r .1 ≡ structsOf k next
 
 -- ---- removals by position
 
@@ -76,6 +83,13 @@ module _ (d j : ℕ) (pos : List ℕ) (m : List (Branch (up d j))) (r : Bool × 
       go none e = absurd (Option·none-ne-some r (sym (no-position d j g pos m e) ∙ h))
       go (some t) e = record { what = t; there = e }
 
+  -- it changes that to u or leaves it, and says which; s is the machine's step
+  found-there : (g : Struct j → Answer (Struct j)) (t u : Branch j) (b : Bool) (s : Result (ℕ × List (Branch (up d j)))) → branchAt d j pos m ≡ some t → g (structOf j t) ≡ some (b, structOf j u)
+      → s ≡ ok (bit b, replaceAt d j pos (u ∷ []) m) → atPosition d j pos g (structsOf (up d j) m) ≡ some r → Found (up d j) s r
+  found-there g t u b s e a k h =
+      let q : Bool × List (Struct (up d j)) = (b, structsOf (up d j) (replaceAt d j pos (u ∷ []) m)) in
+      subst (Found (up d j) s) (sym (the-same q (sym (at-position j g t u b a d pos m e) ∙ h))) (record { next = replaceAt d j pos (u ∷ []) m; steps = k; held = refl })
+
 -- ---- removals by id
 
 filled-chain : (c : Fields 3) → goodFields 3 c ≡ true → eqb (c .id) 0 ≡ false
@@ -100,24 +114,29 @@ unfolding matches
 text-match w e t = sym (both w e t)
 
 module _ (d j : ℕ) (pos : List ℕ) (m : List (Branch (up d (suc j)))) (good : all (goodBranch (up d (suc j))) m ≡ true) (p : Fields j → Bool) (q : Struct j → Bool)
-    (agree : (u : Branch j) → goodBranch j u ≡ true → q (structOf j u) ≡ p (root j u)) (r : Bool × List (Struct (up d (suc j)))) where
-  record ById : Type 0 where
-    next : List (Branch (up d (suc j)))
-    steps : (flag : Result (Unit {0})) → flag ≡ ok tt → removeFirst d j pos flag p m ≡ ok (bit (r .0), next)
-    held : r .1 ≡ structsOf (up d (suc j)) next
-
-  removed-by-id : atPosition d (suc j) pos (removeById j q) (structsOf (up d (suc j)) m) ≡ some r → ById
+    (agree : (u : Branch j) → goodBranch j u ≡ true → q (structOf j u) ≡ p (root j u)) (flag : Result (Unit {0})) (f : flag ≡ ok tt) (r : Bool × List (Struct (up d (suc j)))) where
+  removed-by-id : atPosition d (suc j) pos (removeById j q) (structsOf (up d (suc j)) m) ≡ some r → Found (up d (suc j)) (removeFirst d j pos flag p m) r
   unfolding removeFirst
   removed-by-id h =
       let t = there d (suc j) pos m r (removeById j q) h in
       let g = good-parts j (t .what) (branch-good d (suc j) pos m (t .what) (t .there) good) .1 in
       let a : All (λ (u : Branch j). q (structOf j u) ≡ p (root j u)) (t .what .1) = All-map agree (t .what .1) (All-of (goodBranch j) (t .what .1) g) in
-      let e : r ≡ (isSome (index j p q (t .what) a), structsOf (up d (suc j)) (without d j pos (t .what) (index j p q (t .what) a) m .1)) = the-same d (suc j) pos m r _ (sym (by-id j p q (t .what) a d pos m (t .there)) ∙ h) in
-      record {
-        next = without d j pos (t .what) (index j p q (t .what) a) m .1;
-        steps = λ flag f. rw (t .there, f) (ap (λ (k : ℕ). ok (k, without d j pos (t .what) (index j p q (t .what) a) m .1)) (by-id-found j p q (t .what) a d pos m (t .there) ∙ ap (λ (x : Bool × List (Struct (up d (suc j)))). bit (x .0)) (sym e)));
-        held = ap (λ (x : Bool × List (Struct (up d (suc j)))). x .1) e;
-      }
+      let o = index j p q (t .what) a in
+      found-there d (suc j) pos m r (removeById j q) (t .what) (t .what .0, withoutOne o (t .what .1)) (isSome o) _ (t .there) (remove-by-id j p q (t .what) a)
+      (rw (t .there, f) (ap {B = Result _} ok (without-found d j pos (t .what) m (t .there) o))) h
+
+-- ---- a record's own fields
+
+-- o is what f says of the fields, other ones or none, and the crate's call g on the struct agrees
+module _ (d j : ℕ) (pos : List ℕ) (m : List (Branch (up d j))) (f : Fields j → Result (Option (Fields j))) (o : Fields j → Option (Fields j)) (says : (x : Fields j) → f x ≡ ok (o x))
+    (g : Struct j → Answer (Struct j)) (agree : (t : Branch j) → g (structOf j t) ≡ some (isSome (o (root j t)), structOf j (withNew j (o (root j t)) t))) (r : Bool × List (Struct (up d j))) where
+  set-there : atPosition d j pos g (structsOf (up d j) m) ≡ some r → Found (up d j) (setAt d j pos f m) r
+  unfolding setAt
+  set-there h =
+      let t = there d j pos m r g h in
+      let x = root j (t .what) in
+      found-there d j pos m r g (t .what) (withNew j (o x) (t .what)) (isSome (o x)) _ (t .there) (agree (t .what))
+      (rw (t .there, says x) (ap {B = Result _} ok (refielded-found d j pos (t .what) m (t .there) (o x)))) h
 
 -- ---- remove_atoms_by: the tree's value with the atom alone known
 
@@ -170,11 +189,11 @@ module _ (n : ℕ) (m : Machine) (good : all (goodBranch 4) m ≡ true) where
       let t = there 0 4 (i ∷ []) m r (λ (x : Struct 4). some (true, g x)) h in
       (t .what, t .there, the-same 0 4 (i ∷ []) m r _ (sym (at-position 4 (λ (x : Struct 4). some (true, g x)) (t .what) (f (t .what)) true (ap (λ (x : Struct 4). some (true, x)) (e (t .what))) 0 (i ∷ []) m (t .there)) ∙ h))
 
-  found : (c : Call) (r : Bool × PDB) (after : Machine) → r .1 ≡ pdbOf after → machineStep n m c ≡ ok (record { found = bit (r .0); after = after }) → Same n m c r
-  found c r after e s = record { after = after; fits = true; unfit = λ f. absurd (false≢true (sym f)); stepped = s; held = e }
+  found : (c : Call) (r : Bool × PDB) (s : Result (ℕ × Machine)) → machineStep n m c ≡ Plain.withFound s → Found 4 s r → Same n m c r
+  found c r s e x = record { after = x .next; fits = true; unfit = λ f. absurd (false≢true (sym f)); stepped = e ∙ ap Plain.withFound (x .steps); held = x .held }
 
   done : (c : Call) (r : Bool × PDB) (after : Machine) → r ≡ (true, pdbOf after) → machineStep n m c ≡ ok (record { found = 1; after = after }) → Same n m c r
-  done c r after e s = subst (λ (x : Bool × PDB). Same n m c x) (sym e) (found c (true, pdbOf after) after refl s)
+  done c r after e s = subst (λ (x : Bool × PDB). Same n m c x) (sym e) (found c (true, pdbOf after) (ok (1, after)) s (record { next = after; steps = refl; held = refl }))
 
   -- an addition needs room
   grown : (c : Call) (r : Bool × PDB) (after : Machine) → r ≡ (true, pdbOf after) → machineStep n m c ≡ Plain.fits n after → Same n m c r
@@ -192,17 +211,17 @@ module _ (n : ℕ) (m : Machine) (good : all (goodBranch 4) m ≡ true) where
   same-step (RemoveConformer i c y f) d r h = let x = removed 3 1 (i ∷ c ∷ y ∷ f ∷ []) m r h in done (RemoveConformer i c y f) r (replaceAt 3 1 (i ∷ c ∷ y ∷ f ∷ []) [] m) (x .held) (rw (x .there))
   same-step (RemoveAtom i c y f a) d r h = let x = removed 4 0 (i ∷ c ∷ y ∷ f ∷ a ∷ []) m r h in done (RemoveAtom i c y f a) r (replaceAt 4 0 (i ∷ c ∷ y ∷ f ∷ a ∷ []) [] m) (x .held) (rw (x .there))
   same-step (RemoveChainById i id) d r h =
-      let x = removed-by-id 0 3 (i ∷ []) m good (λ c. matches id (c .id)) (sameChain id) (agree-chain id) r h in
-      found _ r (x .next) (x .held) (ap Plain.withFound (x .steps (ok tt) refl))
+      found _ r _ refl (removed-by-id 0 3 (i ∷ []) m good (λ c. matches id (c .id)) (sameChain id) (agree-chain id) (ok tt) refl r h)
   same-step (RemoveResidueById i c serial code) d r h =
-      let x = removed-by-id 1 2 (i ∷ c ∷ []) m good (λ y. eqb (y .serial) serial && matchesOptional code (y .code)) (sameResidue serial (optionOf code)) (agree-residue serial code) r h in
-      found _ r (x .next) (x .held) (ap Plain.withFound (x .steps _ (flag-ok (code .flag) (badName InsertionCode) d)))
+      found _ r _ refl
+      (removed-by-id 1 2 (i ∷ c ∷ []) m good (λ y. eqb (y .serial) serial && matchesOptional code (y .code)) (sameResidue serial (optionOf code)) (agree-residue serial code) _
+      (flag-ok (code .flag) (badName InsertionCode) d) r h)
   same-step (RemoveConformerById i c y name location) d r h =
-      let x = removed-by-id 2 1 (i ∷ c ∷ y ∷ []) m good (λ f. matches name (f .name) && matchesOptional location (f .location)) (sameConformer name (optionOf location)) (agree-conformer name location) r h in
-      found _ r (x .next) (x .held) (ap Plain.withFound (x .steps _ (flag-ok (location .flag) (badName AlternativeLocation) d)))
+      found _ r _ refl
+      (removed-by-id 2 1 (i ∷ c ∷ y ∷ []) m good (λ f. matches name (f .name) && matchesOptional location (f .location)) (sameConformer name (optionOf location)) (agree-conformer name location) _
+      (flag-ok (location .flag) (badName AlternativeLocation) d) r h)
   same-step (RemoveAtomBySerialNumber i c y f serial) d r h =
-      let x = removed-by-id 3 0 (i ∷ c ∷ y ∷ f ∷ []) m good (λ a. eqb (a .serial) serial) (sameAtom serial) (agree-atom serial) r h in
-      found _ r (x .next) (x .held) (ap Plain.withFound (x .steps (ok tt) refl))
+      found _ r _ refl (removed-by-id 3 0 (i ∷ c ∷ y ∷ f ∷ []) m good (λ a. eqb (a .serial) serial) (sameAtom serial) (agree-atom serial) (ok tt) refl r h)
   same-step (RemoveAtomsBy i tree) d r h =
       let p : Fields zero → Bool = λ a. not (isTrue (treeValue (termValue tables (enter zero a nowhere)) tree)) in
       let x = on-model i (λ (y : Struct 4). (y .0, removeAtomsBy 3 (chosen (searchOf tree)) (y .1))) (λ t. (t .0, keepAtoms 3 p (t .1)))
@@ -223,3 +242,5 @@ module _ (n : ℕ) (m : Machine) (good : all (goodBranch 4) m ≡ true) where
   same-step (JoinConformers i c y f i′ c′ y′ f′) d r h =
       let x = join-at 3 0 (i ∷ c ∷ y ∷ f ∷ []) (i′ ∷ c′ ∷ y′ ∷ f′ ∷ []) m r h in
       done (JoinConformers i c y f i′ c′ y′ f′) r (replaceAt 3 1 (i′ ∷ c′ ∷ y′ ∷ f′ ∷ []) [] (withChildren 3 0 (i ∷ c ∷ y ∷ f ∷ []) (x .first) (x .first .1 ++ x .second .1) m)) (x .held) (rw (x .at-first, x .at-second, d))
+  same-step (SetElement i c y f a e) d r h =
+      found _ r _ refl (set-there 4 0 (i ∷ c ∷ y ∷ f ∷ a ∷ []) m (fillIn e) (filledIn e) (fill-in e (d .0) (d .1)) (fillElement e) (fill-element e (d .0)) r h)

@@ -7,6 +7,7 @@ pub mod Vecs
 pub mod Names
 pub mod Additions
 pub mod Removals
+pub mod Setters
 pub mod Equal
 pub mod Accepted
 pub mod Converse

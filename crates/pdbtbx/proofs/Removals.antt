@@ -1,7 +1,7 @@
 -- The crate's removals and joins are document 01's, at every level. Assumes nothing.
 use Prim.Native.Nat.{ℕ, zero, suc, _≤_}
 use mathlib.Core.Path.{_≡_, refl, sym, ap, ap₂, _∙_}
-use mathlib.Core.Bool.{Bool, true, false, not, cond, Bool·not-not}
+use mathlib.Core.Bool.{Bool, true, false, not, Bool·not-not}
 use mathlib.Core.List.{List, [], _∷_, _++_, map, map-id, map-append}
 use mathlib.Core.Option.{Option, none, some, Option·map, Option·none-ne-some, Option·some-injective}
 use native.Mathlib.Omega.{arith}
@@ -17,6 +17,7 @@ use Rattle.pdbtbx.specs.Std.{Answer, at, remove}
 use Rattle.pdbtbx.specs.Structs.{Atom, Struct}
 use Rattle.pdbtbx.specs.Words.{saysOf, structOf, structsOf}
 use Rattle.pdbtbx.specs.Edits.{children, atPosition, removeAt, removeIndex, removeById, removeAtomsBy, removeEmpty, join, structAt, joinAt}
+use Rattle.pdbtbx.specs.Demand.{bit}
 use Rattle.pdbtbx.proofs.Vecs.{filter-map, at-map, at-none, at-panic, first-all, first-within, Within}
 
 -- ---- lists
@@ -104,9 +105,8 @@ remove-nowhere (suc d) j (i ∷ is) m e = go (nth i m) refl e (λ u. remove-nowh
     go none n k f = at-none (structOf (suc (up d j))) _ i m n
     go (some x) n k f = at-panic (structOf (suc (up d j))) _ i m x n (ap (children (saysOf (suc (up d j)) (x .0))) (f (x .1) k))
 
--- ---- by id
-
-replace-self : (d j : ℕ) (pos : List ℕ) (m : List (Branch (up d j))) (t : Branch j) → branchAt d j pos m ≡ some t → replaceAt d j pos (t ∷ []) m ≡ m
+-- a branch that gives way to itself stays
+pub replace-self : (d j : ℕ) (pos : List ℕ) (m : List (Branch (up d j))) (t : Branch j) → branchAt d j pos m ≡ some t → replaceAt d j pos (t ∷ []) m ≡ m
 unfolding branchAt replaceAt
 replace-self d j [] m t e = refl
 replace-self zero j (i ∷ is) m t e = splice-self i m t e
@@ -116,9 +116,11 @@ replace-self (suc d) j (i ∷ is) m t e =
     ∙ ap (λ (l : List (Branch (up d j))). splice i (λ (x : Branch (suc (up d j))). (s .0 .0, l) ∷ []) m) (replace-self d j is (s .0 .1) t (s .2))
     ∙ splice-self i m (s .0) (s .1)
 
-abbrev pub isSome : Option ℕ → Bool
+-- ---- by id
+
+abbrev pub isSome : {A : Type 0} → Option A → Bool
 isSome none = false
-isSome (some i) = true
+isSome (some x) = true
 
 abbrev pub withoutOne : {A : Type 0} → Option ℕ → List A → List A
 withoutOne none ts = ts
@@ -133,28 +135,17 @@ module _ (j : ℕ) (p : Fields j → Bool) (q : Struct j → Bool) (t : Branch (
   on-index none w = refl
   on-index (some i) w = rw (remove-within (structOf j) i (t .1) w)
 
-  remove-by-id : removeById j q (structOf (suc j) t) ≡ some (isSome index, structOf (suc j) (t .0, withoutOne index (t .1)))
+  pub remove-by-id : removeById j q (structOf (suc j) t) ≡ some (isSome index, structOf (suc j) (t .0, withoutOne index (t .1)))
   unfolding removeById structOf
   remove-by-id =
       ap (λ (o : Option ℕ). removeIndex j o (structOf (suc j) t)) (first-all (structOf j) q (λ (u : Branch j). p (root j u)) (t .1) agree)
       ∙ on-index (firstWhere (λ (u : Branch j). p (root j u)) (t .1)) (first-within (λ (u : Branch j). p (root j u)) (t .1))
 
-  module _ (d : ℕ) (pos : List ℕ) (m : List (Branch (up d (suc j)))) (e : branchAt d (suc j) pos m ≡ some t) where
-    replaced : (o : Option ℕ) → structsOf (up d (suc j)) (replaceAt d (suc j) pos ((t .0, withoutOne o (t .1)) ∷ []) m) ≡ structsOf (up d (suc j)) (without d j pos t o m .1)
-    replaced none = ap (structsOf (up d (suc j))) (replace-self d (suc j) pos m t e)
-    replaced (some i) = refl
-
-    pub by-id : atPosition d (suc j) pos (removeById j q) (structsOf (up d (suc j)) m) ≡ some (isSome index, structsOf (up d (suc j)) (without d j pos t index m .1))
-    by-id =
-        at-position (suc j) (removeById j q) t (t .0, withoutOne index (t .1)) (isSome index) remove-by-id d pos m e
-        ∙ ap (λ (l : List (Struct (up d (suc j)))). some (isSome index, l)) (replaced index)
-
-    pub by-id-found : without d j pos t index m .0 ≡ cond (isSome index) 1 0
-    by-id-found = go index
-      where
-        go : (o : Option ℕ) → without d j pos t o m .0 ≡ cond (isSome o) 1 0
-        go none = refl
-        go (some i) = refl
+-- found 0 is the crate's false, and nothing changed
+pub without-found : (d j : ℕ) (pos : List ℕ) (t : Branch (suc j)) (m : List (Branch (up d (suc j)))) → branchAt d (suc j) pos m ≡ some t
+    → (o : Option ℕ) → without d j pos t o m ≡ (bit (isSome o), replaceAt d (suc j) pos ((t .0, withoutOne o (t .1)) ∷ []) m)
+without-found d j pos t m e none = ap (λ (l : List (Branch (up d (suc j)))). (0, l)) (sym (replace-self d (suc j) pos m t e))
+without-found d j pos t m e (some i) = refl
 
 -- ---- joins
 

@@ -1,6 +1,6 @@
--- Document 01's sixteen edits and its trees given to pdbtbx 0.12.0: for each, the crate's own call. Assumes nothing.
+-- The edits and trees given to pdbtbx 0.12.0: for each, the crate's own call. Assumes nothing.
 use Prim.Native.Nat.{ℕ, zero, suc}
-use mathlib.Core.Bool.{Bool, true, false, _&&_}
+use mathlib.Core.Bool.{Bool, true, false, _&&_, cond}
 use mathlib.Core.List.{List, [], _∷_}
 use mathlib.Core.Option.{Option, none, some, Option·map}
 use lib.Dec.{eqb}
@@ -8,16 +8,16 @@ use Rattle.machine.specs.Lists.{same, andThen}
 use Rattle.machine.specs.Answer.{Result, ok, refused}
 use Rattle.machine.specs.Text.{Optional}
 use Rattle.machine.specs.Query.{readTree}
-use Rattle.machine.specs.Edit.{Addition, Call, AddModel, AddAtom, RemoveChain, RemoveResidue, RemoveConformer, RemoveAtom, RemoveChainById, RemoveResidueById, RemoveConformerById, RemoveAtomBySerialNumber, RemoveAtomsBy, RemoveEmpty, JoinModels, JoinChains, JoinResidues, JoinConformers}
+use Rattle.machine.specs.Edit.{Addition, Call, AddModel, AddAtom, RemoveChain, RemoveResidue, RemoveConformer, RemoveAtom, RemoveChainById, RemoveResidueById, RemoveConformerById, RemoveAtomBySerialNumber, RemoveAtomsBy, RemoveEmpty, JoinModels, JoinChains, JoinResidues, JoinConformers, SetElement}
 use Rattle.machine.specs.declared.Term.{Term}
 use Rattle.machine.specs.declared.Node.{Node}
 use Rattle.machine.specs.declared.Node.the-variants as Nodes
-use Rattle.pdbtbx.specs.Std.{Text, sameOption, Answer}
+use Rattle.pdbtbx.specs.Std.{Text, sameOption, isNone, Answer}
 use Rattle.pdbtbx.specs.Structs.{Atom, Struct, PDB, prepareIdentifierUppercase}
 use Rattle.pdbtbx.specs.Words.{optionElement}
 use Rattle.pdbtbx.specs.Search.{Search, Operator, Not, Single, Known, isKnown, complete, addInfo}
 use Rattle.pdbtbx.specs.Matches.{matchesAt}
-use Rattle.pdbtbx.specs.Edits.{Arguments, addAtom, addModel, atPosition, removeAt, removeById, removeAtomsBy, removeEmpty, joinAt}
+use Rattle.pdbtbx.specs.Edits.{Arguments, addAtom, addModel, atPosition, removeAt, removeById, removeAtomsBy, removeEmpty, joinAt, setElement}
 
 -- ---- arguments
 
@@ -112,6 +112,11 @@ sameConformer name location f = same (f .0 .name) name && sameOption (f .0 .loca
 abbrev pub sameAtom : ℕ → Struct 0 → Bool
 sameAtom serial a = eqb (a .serial) serial
 
+-- change request §6: "Setting it where one is present changes nothing and gives found 0." The crate's method overwrites, so it is asked where there
+-- is none: if atom.element().is_none() { atom.set_element(element); true } else { false }
+unfoldable pub fillElement : ℕ → Struct 0 → Answer (Struct 0)
+fillElement element atom = cond (isNone (atom .element)) (some (true, setElement element atom)) (some (false, atom))
+
 unfoldable pub edit : Call → PDB → Answer PDB
 edit (AddModel serial) pdb = addModel serial pdb
 edit (AddAtom i a) pdb = addAtom i (argumentsOf a) pdb
@@ -129,6 +134,7 @@ edit (JoinModels i i′) pdb = joinAt 0 3 (i ∷ []) (i′ ∷ []) pdb
 edit (JoinChains i c i′ c′) pdb = joinAt 1 2 (i ∷ c ∷ []) (i′ ∷ c′ ∷ []) pdb
 edit (JoinResidues i c r i′ c′ r′) pdb = joinAt 2 1 (i ∷ c ∷ r ∷ []) (i′ ∷ c′ ∷ r′ ∷ []) pdb
 edit (JoinConformers i c r f i′ c′ r′ f′) pdb = joinAt 3 0 (i ∷ c ∷ r ∷ f ∷ []) (i′ ∷ c′ ∷ r′ ∷ f′ ∷ []) pdb
+edit (SetElement i c r f a e) pdb = atPosition 4 0 (i ∷ c ∷ r ∷ f ∷ a ∷ []) (fillElement e) pdb
 
 -- one call after another, none of which panics: what they return, and the structure afterwards
 unfoldable pub edits : List Call → PDB → Option (List Bool × PDB)

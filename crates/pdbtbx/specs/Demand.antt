@@ -14,7 +14,7 @@ use Rattle.machine.specs.Store.{stored, capacity, layOut, openRun}
 use Rattle.machine.specs.Kleene.{decided, notT, applyT}
 use Rattle.machine.specs.Query.{readTree, treeValue}
 use Rattle.machine.specs.Find.{findFrom}
-use Rattle.machine.specs.Edit.{Addition, Call, AddModel, AddAtom, RemoveChain, RemoveResidue, RemoveConformer, RemoveAtom, RemoveChainById, RemoveResidueById, RemoveConformerById, RemoveAtomBySerialNumber, RemoveAtomsBy, RemoveEmpty, JoinModels, JoinChains, JoinResidues, JoinConformers, storeStep, storeAfter, storeAnswers}
+use Rattle.machine.specs.Edit.{Addition, Call, AddModel, AddAtom, RemoveChain, RemoveResidue, RemoveConformer, RemoveAtom, RemoveChainById, RemoveResidueById, RemoveConformerById, RemoveAtomBySerialNumber, RemoveAtomsBy, RemoveEmpty, JoinModels, JoinChains, JoinResidues, JoinConformers, SetElement, storeStep, storeAfter, storeAnswers}
 use Rattle.machine.specs.Demand.{accepts, Accepted, list}
 use Rattle.machine.specs.declared.Tri.{Tri}
 use Rattle.machine.specs.declared.Term.{Term}
@@ -94,8 +94,9 @@ InDomain (JoinModels i i′) = same (i ∷ []) (i′ ∷ []) ≡ false
 InDomain (JoinChains i c i′ c′) = same (i ∷ c ∷ []) (i′ ∷ c′ ∷ []) ≡ false
 InDomain (JoinResidues i c r i′ c′ r′) = same (i ∷ c ∷ r ∷ []) (i′ ∷ c′ ∷ r′ ∷ []) ≡ false
 InDomain (JoinConformers i c r f i′ c′ r′ f′) = same (i ∷ c ∷ r ∷ f ∷ []) (i′ ∷ c′ ∷ r′ ∷ f′ ∷ []) ≡ false
+InDomain (SetElement i c r f a e) = (1 ≤ e) × (e ≤ 118)
 
--- ---- what is claimed: w is any words that opening accepts, and calls any list of the sixteen edits, refused ones included
+-- ---- what is claimed: w is any words that opening accepts, and calls any list of edits, refused ones included
 
 abbrev pub bit : Bool → ℕ
 bit b = cond b 1 0

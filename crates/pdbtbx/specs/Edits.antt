@@ -1,5 +1,5 @@
--- pdbtbx 0.12.0: the edits of `PDB`, `Model`, `Chain`, `Residue` and `Conformer`, function by function. `none` is a panic, after which the crate's
--- structure may be half changed: nothing is said of it. Assumes nothing.
+-- pdbtbx 0.12.0: the edits of `PDB`, `Model`, `Chain`, `Residue`, `Conformer` and `Atom`, function by function. `none` is a panic, after which
+-- the crate's structure may be half changed: nothing is said of it. Assumes nothing.
 use Prim.Native.Nat.{ℕ, zero, suc}
 use mathlib.Core.Bool.{Bool, true, false, not, _&&_, cond}
 use mathlib.Core.List.{List, [], _∷_, _++_, map}
@@ -160,3 +160,21 @@ structAt (suc d) j (i ∷ is) ts = andThen (nth i ts) (λ t. structAt d j is (t 
 unfoldable pub joinAt : (d j : ℕ) → List ℕ → List ℕ → List (Struct (up d (suc j))) → Answer (List (Struct (up d (suc j))))
 joinAt d j a b ts =
     andThen (structAt d (suc j) b ts) (λ other. andThen (atPosition d (suc j) a (join j other) ts) (λ r. removeAt d (suc j) b (r .1)))
+
+-- ---- an atom's own fields
+
+-- Atom::set_element: self.element = Some(element)
+abbrev pub setElement : ℕ → Atom → Atom
+setElement element self =
+    record {
+      hetero = self .hetero;
+      serial = self .serial;
+      name = self .name;
+      x = self .x;
+      y = self .y;
+      z = self .z;
+      occupancy = self .occupancy;
+      «b_factor» = self .«b_factor»;
+      element = some element;
+      charge = self .charge;
+    }

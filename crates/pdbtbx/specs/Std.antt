@@ -28,6 +28,11 @@ sameOption none (some t) = false
 sameOption (some s) none = false
 sameOption (some s) (some t) = same s t
 
+-- o.is_none()
+abbrev pub isNone : {A : Type 0} → Option A → Bool
+isNone none = true
+isNone (some x) = false
+
 -- o.unwrap_or(b)
 abbrev pub unwrapOr : Bool → Option Bool → Bool
 unwrapOr b none = b

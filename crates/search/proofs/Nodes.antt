@@ -19,9 +19,6 @@ use Rattle.machine.specs.declared.Node.the-variants.{Single, Binary, Not, Known
 use Rattle.machine.specs.declared.Refusal.{Refusal}
 use Rattle.machine.specs.declared.Refusal.the-variants.{TreeNode}
 use Rattle.laws.specs.Lists.{and-both}
-use Rattle.elements.specs.Element.{elementOf}
-use Rattle.elements.specs.declared.MaybeElement.{MaybeElement}
-use Rattle.elements.specs.declared.MaybeElement.the-variants.{Is, NotOne}
 use Rattle.search.specs.Nodes.{made, nodeFor, sortOf, sorted, sortFor, fitsCode, goodNode}
 use Rattle.search.specs.declared.Sort as Sort
 use Rattle.terms.proofs.Terms.{cases, each-key}
@@ -193,19 +190,6 @@ good-sort number w = refl
 good-sort text w = refl
 good-sort float w = refl
 good-sort element w = refl
-
--- what `from_number` makes of a parameter says whether it is good
-abbrev isOne : MaybeElement → Bool
-isOne (Is e) = true
-isOne NotOne = false
-
-pub element-good : (w : ℕ) (m : MaybeElement) → m ≡ elementOf w → goodParameter element w ≡ isOne m
-unfolding elementOf
-element-good w m e = sym (ap isOne e ∙ go (goodParameter element w))
-  where
-    go : (b : Bool) → isOne (cond b (Is (record { number = w })) NotOne) ≡ b
-    go true = refl
-    go false = refl
 
 abbrev sortsAre : ℕ → ℕ → Option Code → Bool
 sortsAre a b none = false

@@ -26,6 +26,7 @@ use Rattle.machine.specs.Edit.{
   JoinChains,
   JoinResidues,
   JoinConformers,
+  SetElement,
   addModel,
   prepare,
   addPrepared,
@@ -47,6 +48,7 @@ use Rattle.seek.specs.Seek.{held, Good}
 use Rattle.removals.specs.Removal.{removal}
 use Rattle.removals.specs.Named.{chainById, residueById, conformerById, atomBySerialNumber}
 use Rattle.joins.specs.Join.{join}
+use Rattle.settings.specs.Set.{elementSet}
 use Rattle.lookup.specs.Level as Level
 
 -- ---- on a refused store
@@ -118,6 +120,10 @@ module _ {x : List ℕ × List ℕ} (w : List ℕ) (i c r f a : ℕ) where
   pub empty-removed : x ≡ stepBy w (removeEmpty i) → x ≡ storeStep w (RemoveEmpty i)
   unfolding storeStep machineStep
   empty-removed e = e
+
+  pub element-set : (element : ℕ) → x ≡ stepBy w (elementSet (i ∷ c ∷ r ∷ f ∷ a ∷ []) element) → x ≡ storeStep w (SetElement i c r f a element)
+  unfolding storeStep machineStep
+  element-set element e = e
 
 module _ {x : List ℕ × List ℕ} (w : List ℕ) (i c r f i′ c′ r′ f′ : ℕ) where
   pub models-joined : x ≡ stepBy w (join (i ∷ []) (i′ ∷ [])) → x ≡ storeStep w (JoinModels i i′)
