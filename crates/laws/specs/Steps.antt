@@ -39,9 +39,9 @@ module _ {A : Type 0} where
   if-ok : {P : A → Type 0} {x : A} → IfOk P (ok x) → P x
   if-ok (holds h) = h
 
-  if-concatMap : {B : Type 0} (P : A → Type 0) (r : Result B) (f : B → Result A) → ((x : B) → r ≡ ok x → IfOk P (f x)) → IfOk P (r >>= f)
-  if-concatMap P (ok x) f h = h x refl
-  if-concatMap P (refused e) f h = nothing
+  if-bind : {B : Type 0} (P : A → Type 0) (r : Result B) (f : B → Result A) → ((x : B) → r ≡ ok x → IfOk P (f x)) → IfOk P (r >>= f)
+  if-bind P (ok x) f h = h x refl
+  if-bind P (refused e) f h = nothing
 
   if-then : {B : Type 0} (P : A → Type 0) (r : Result B) (q : Result A) → ((x : B) → r ≡ ok x → IfOk P q) → IfOk P (r >> q)
   if-then P (ok x) q h = h x refl
@@ -147,19 +147,19 @@ removeFirst-less : (d j : ℕ) (pos : List ℕ) (flag : Result (Unit {0})) (p : 
     → IfOk (λ c. Less (up d (suc j)) m (c .1)) (removeFirst d j pos flag p m)
 unfolding removeFirst
 removeFirst-less d j pos flag p m =
-    if-concatMap _ (position (branchAt d (suc j) pos m)) _
+    if-bind _ (position (branchAt d (suc j) pos m)) _
     (λ t e. if-then _ flag _ (λ u f. holds (without-less d j pos t (firstWhere (λ v. p (root j v)) (t .1)) m (position-some _ t e))))
 
 removeAtomsBy-less : (i : ℕ) (tree : List ℕ) (m : Machine) → IfOk (λ c. Less 4 m (c .after)) (removeAtomsBy i tree m)
 unfolding removeAtomsBy
 removeAtomsBy-less i tree m =
-    if-concatMap _ (position (branchAt 0 4 (i ∷ []) m)) _
+    if-bind _ (position (branchAt 0 4 (i ∷ []) m)) _
     (λ t e. if-then _ (readTree tree) _ (λ ns f. holds (less-children 0 3 (i ∷ []) t _ m (position-some _ t e) (less-keepAtoms 3 _ (t .1)))))
 
 removeEmpty-less : (i : ℕ) (m : Machine) → IfOk (λ c. Less 4 m (c .after)) (removeEmpty i m)
 unfolding removeEmpty
 removeEmpty-less i m =
-    if-concatMap _ (position (branchAt 0 4 (i ∷ []) m)) _
+    if-bind _ (position (branchAt 0 4 (i ∷ []) m)) _
     (λ t e. holds (less-children 0 3 (i ∷ []) t _ m (position-some _ t e) (less-nonEmpty 3 (t .1))))
 
 -- the first takes the second's children, and then the second goes
@@ -181,8 +181,8 @@ module _ (d j : ℕ) (a b : List ℕ) (m : List (Branch (up d (suc j)))) (la : l
   joinAt-less : IfOk (Less (up d (suc j)) m) (joinAt d j a b m)
   unfolding joinAt
   joinAt-less =
-      if-concatMap _ (position (branchAt d (suc j) a m)) _
-      (λ t e. if-concatMap _ (position (branchAt d (suc j) b m)) _
+      if-bind _ (position (branchAt d (suc j) a m)) _
+      (λ t e. if-bind _ (position (branchAt d (suc j) b m)) _
       (λ u f. if-then _ (need (not (same a b)) JoinWithItself) _
       (λ v g. holds (joined-less t u (position-some _ t e) (position-some _ u f) (not-true (same a b) (need-true _ _ v g))))))
 
@@ -204,8 +204,8 @@ setAt-less : (d j : ℕ) (pos : List ℕ) (f : Fields j → Result (Option (Fiel
     → IfOk (λ c. Less (up d j) m (c .1)) (setAt d j pos f m)
 unfolding setAt
 setAt-less d j pos f m h =
-    if-concatMap _ (position (branchAt d j pos m)) _
-    (λ t e. if-concatMap _ (f (root j t)) _
+    if-bind _ (position (branchAt d j pos m)) _
+    (λ t e. if-bind _ (f (root j t)) _
     (λ o g. holds (refielded-less d j pos t o m (position-some _ t e) (λ y q. h (root j t) y (rw q at g)))))
 
 element-good : (e : ℕ) (a : Atom) → leb e 118 ≡ true → goodFields 0 a ≡ true → goodFields 0 (withElement e a) ≡ true
@@ -335,11 +335,11 @@ record GoodNames (p : PreparedAddition) : Type 0 where
 prepare-good : (a : Addition) → IfOk GoodNames (prepare a)
 unfolding prepare
 prepare-good a =
-    if-concatMap GoodNames (accept ChainId (chainId (a .chain))) _
-    (λ chain e₁. if-concatMap GoodNames (accept InsertionCode (optional insertionCode (a .code))) _
-    (λ code e₂. if-concatMap GoodNames (accept ConformerName (conformerName (a .conformer))) _
-    (λ conformer e₃. if-concatMap GoodNames (accept AlternativeLocation (optional alternativeLocation (a .location))) _
-    (λ location e₄. if-concatMap GoodNames (accept AtomName (atomName (a .name))) _
+    if-bind GoodNames (accept ChainId (chainId (a .chain))) _
+    (λ chain e₁. if-bind GoodNames (accept InsertionCode (optional insertionCode (a .code))) _
+    (λ code e₂. if-bind GoodNames (accept ConformerName (conformerName (a .conformer))) _
+    (λ conformer e₃. if-bind GoodNames (accept AlternativeLocation (optional alternativeLocation (a .location))) _
+    (λ location e₄. if-bind GoodNames (accept AtomName (atomName (a .name))) _
     (λ name e₅. holds (record {
       chain = chainId-stored (a .chain) chain (chainId-accepted (a .chain) chain e₁);
       code = optional-good InsertionCode insertionCode code (a .code) insertionCode-stored e₂;
@@ -396,8 +396,8 @@ module _ (i : ℕ) (m : Machine) (t : Branch 4) (p : PreparedAddition) (there : 
 addAtom-grows : (n i : ℕ) (a : Addition) (m : Machine) → IfOk (λ c. Grows n 1 m (c .after)) (addAtom n i a m)
 unfolding addPrepared
 addAtom-grows n i a m =
-    if-concatMap _ (position (branchAt 0 4 (i ∷ []) m)) _
-    (λ t e. if-concatMap _ (prepare a) _
+    if-bind _ (position (branchAt 0 4 (i ∷ []) m)) _
+    (λ t e. if-bind _ (prepare a) _
     (λ p f. if-then _ (need (goodValues (newAtom p)) BadValue) _
     (λ u g.
     let there = position-some _ t e in
@@ -423,10 +423,10 @@ module _ (n : ℕ) (m : Machine) (c : Call) (none-added : (l : List ℕ) → add
   }
 
   machine-step : (r : Result Machine) → IfOk (Less 4 m) r → Step n m c (withMachine r)
-  machine-step r h = less-step (withMachine r) (if-concatMap _ r _ (λ x e. holds (if-ok (rw e at h))))
+  machine-step r h = less-step (withMachine r) (if-bind _ r _ (λ x e. holds (if-ok (rw e at h))))
 
   found-step : (r : Result (ℕ × Machine)) → IfOk (λ x. Less 4 m (x .1)) r → Step n m c (withFound r)
-  found-step r h = less-step (withFound r) (if-concatMap _ r _ (λ x e. holds (if-ok (rw e at h))))
+  found-step r h = less-step (withFound r) (if-bind _ r _ (λ x e. holds (if-ok (rw e at h))))
 
 -- a call that adds k atoms where it is accepted
 grows-step : (n k : ℕ) (m : Machine) (c : Call) → ((x : Change) → addedBy c (answer m (ok x)) ≡ k) → ((e : Refusal) → addedBy c (answer m (refused e)) ≡ 0)
