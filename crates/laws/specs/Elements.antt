@@ -1,5 +1,5 @@
 -- A missing element that is set: from every start and for every tree the hits stay, or lose that atom. Assumes nothing.
-use Prim.Native.Nat.{ℕ, zero, suc, _+_, _<_}
+use Prim.Native.Nat.{ℕ, zero, suc, _+_}
 use mathlib.Core.Path.{_≡_, refl, sym, ap, _∙_}
 use mathlib.Core.Bool.{Bool, true, false, cond}
 use mathlib.Core.Logic.{_⊎_, inl, inr}
@@ -9,13 +9,13 @@ use native.Mathlib.Omega.{arith}
 use lib.ListN.{length}
 use lib.Dec.{leb, eqb}
 use borrow.Author.Tests.{leb-true, leb-false}
-use Rattle.machine.specs.Lists.{keep, filter, nth, concatMapFrom, andThen}
+use Rattle.machine.specs.Lists.{keep, filter, nth, concatMapFrom}
 use Rattle.machine.specs.Answer.{Result, ok, _>>=_, _>>_, need, position}
 use Rattle.machine.specs.Record.{Atom, isElement, readOut}
 use Rattle.machine.specs.Store.{Branch, Machine, flat}
 use Rattle.machine.specs.Kleene.{isHit}
 use Rattle.machine.specs.Query.{Place, Names, onlyIf, between, window, elementIs, termValue}
-use Rattle.machine.specs.Find.{Site, enter, below, top, size, numbered, atomsIn, atomsUnder, atomsFrom, valueFrom, hitsAmong}
+use Rattle.machine.specs.Find.{Site, enter, below, top, size, numbered, atomsIn, atomsFrom, valueFrom, hitsAmong}
 use Rattle.machine.specs.Edit.{SetElement, Change, branchAt, replaceAt, withFound, refielded, setAt, withElement, fillIn, machineStep}
 use Rattle.machine.specs.Demand.{StaysOrLoses}
 use Rattle.machine.specs.declared.Refusal.the-variants.{BadValue}
@@ -26,6 +26,7 @@ use Rattle.machine.specs.declared.Term.the-variants.{ModelSerialNumber, ModelSe
 use Rattle.laws.specs.Counting.{filter-append}
 use Rattle.laws.specs.Kleene.{_⊑_, ⊑-refl}
 use Rattle.laws.specs.Trees.{tree-grows}
+use Rattle.laws.specs.Numbers.{too-deep}
 use Rattle.laws.specs.Sites.{Alike, Sites, sites}
 
 -- ---- one atom's terms
@@ -118,17 +119,6 @@ module _ (names : Names) (low : ℕ) (t : List ℕ) where
 -- from a start whose atoms these are, the hits afterwards stay or lose one
 abbrev pub Falls : List ℕ → Machine → Names → ℕ → List ℕ → List ℕ → List Site → Type 0
 Falls hit after names low t start atoms = (atoms′ : List Site) × (atomsFrom start after ≡ some atoms′) × StaysOrLoses hit (hitsAmong names low t atoms) (hitsAmong names low t atoms′)
-
--- below an atom there is no start
-too-deep : (k : ℕ) (s : Site) (n : ℕ) (start : List ℕ) (ts : List (Branch k)) → k < length start → atomsUnder k s n start ts ≡ none
-unfolding atomsUnder
-too-deep k s n [] ts l = absurd (omega arith)
-too-deep zero s n (i ∷ is) ts l = refl
-too-deep (suc k) s n (i ∷ is) ts l = go (nth i (numbered (suc k) n ts)) (λ t. too-deep k (below (suc k) (t .0) (t .1 .0) s) (suc (t .0)) is (t .1 .1) (omega arith))
-  where
-    go : {A B : Type 0} {g : A → Option B} (o : Option A) → ((x : A) → g x ≡ none) → andThen o g ≡ none
-    go none h = refl
-    go (some x) h = h x
 
 nth-atoms : (s : Site) (i n : ℕ) (ts : List (Branch 0)) (q : ℕ) (a : Atom) → nth i (numbered 0 n ts) ≡ some (q, a) → nth i (concatMapFrom (size 0) (atomsIn 0 s) n ts) ≡ some (below 0 q a s)
 unfolding numbered atomsIn

@@ -35,6 +35,10 @@ pub and-then : {A B : Type 0} (o : Option A) (f : A → Option B) (y : B) → an
 and-then none f y e = let z : _≡_ {A = ℕ} 0 1 = cc in absurd (omega arith)
 and-then (some x) f y e = (x, refl, e)
 
+pub then-never : {A B : Type 0} (o : Option A) (f : A → Option B) → ((x : A) → f x ≡ none) → andThen o f ≡ none
+then-never none f h = refl
+then-never (some x) f h = h x
+
 module _ {A : Type 0} where
   abbrev pub All : (A → Type 0) → List A → Type 0
   All P [] = Unit {0}

@@ -1,5 +1,5 @@
 -- The record numbers of branches, and of the atoms among them: five to an atom, and the atoms' own rise. Assumes nothing.
-use Prim.Native.Nat.{ℕ, zero, suc, _+_, _*_, _≤_}
+use Prim.Native.Nat.{ℕ, zero, suc, _+_, _*_, _≤_, _<_}
 use mathlib.Core.Path.{_≡_, refl, sym, ap, _∙_, subst}
 use mathlib.Core.Bool.{Bool}
 use mathlib.Core.List.{List, [], _∷_, _++_, map, map-append}
@@ -15,9 +15,9 @@ use Rattle.machine.specs.Kleene.{isHit}
 use Rattle.machine.specs.Query.{Names}
 use Rattle.machine.specs.Find.{Site, below, top, size, numbered, atomsIn, atomsOf, atomsUnder, atomsFrom, valueFrom, hitsAmong, hitWords}
 use Rattle.machine.specs.Demand.{atomNumber}
-use Rattle.laws.specs.Lists.{All, All-left, All-right, All-over, and-then, sum-append, length-concatMap}
+use Rattle.laws.specs.Lists.{All, All-left, All-right, All-over, and-then, then-never, sum-append, length-concatMap}
 use Rattle.laws.specs.Counting.{filter-All, filter-few, All-concatMapFrom, Rises, rises-from, rises-append}
-use Rattle.laws.specs.Places.{Around, around}
+use Rattle.laws.specs.Places.{Around, around, splice-self}
 
 -- ---- branches with their record numbers
 
@@ -29,13 +29,8 @@ numbered-put k i n f [] t e = let z : _≡_ {A = ℕ} 0 1 = cc in absurd (omega 
 numbered-put k zero n f (u ∷ ts) t e = let q : u ≡ t = cc in rw (add-zero, q)
 numbered-put k (suc i) n f (u ∷ ts) t e = numbered-put k i (n + size k u) f ts t e ∙ rw (length-append (flat k u), add-assoc)
 
-splice-same : {A : Type 0} (i : ℕ) (xs : List A) → splice i (λ x. x ∷ []) xs ≡ xs
-splice-same i [] = refl
-splice-same zero (x ∷ xs) = refl
-splice-same {A} (suc i) (x ∷ xs) = ap (λ (l : List A). x ∷ l) (splice-same i xs)
-
 pub nth-numbered : (k i n : ℕ) (ts : List (Branch k)) (t : Branch k) (e : nth i ts ≡ some t) → nth i (numbered k n ts) ≡ some (n + length (concatMap (flat k) (around i ts t e .before)), t)
-nth-numbered k i n ts t e = ap (λ (us : List (Branch k)). nth i (numbered k n us)) (sym (splice-same i ts)) ∙ numbered-put k i n (λ u. u) ts t e
+nth-numbered k i n ts t e = ap (λ (us : List (Branch k)). nth i (numbered k n us)) (sym (splice-self i ts t e)) ∙ numbered-put k i n (λ u. t) ts t e
 
 -- one of as many records moves no other
 pub numbered-other : (k i j n : ℕ) (f : Branch k → Branch k) (ts : List (Branch k)) (t : Branch k) → nth i ts ≡ some t → size k (f t) ≡ size k t → (i ≡ j → ⊥)
@@ -158,6 +153,14 @@ under-at (suc k) s d n (i ∷ is) ts atoms e =
 
 pub under-start : (start : List ℕ) (m : Machine) (atoms : List Site) → atomsFrom start m ≡ some atoms → Under (stored m) atoms
 under-start start m atoms e = under-at 4 top refl 0 start m atoms e
+
+-- more indexes than there are levels above the atoms
+pub too-deep : (k : ℕ) (s : Site) (n : ℕ) (is : List ℕ) (ts : List (Branch k)) → k < length is → atomsUnder k s n is ts ≡ none
+unfolding atomsUnder
+too-deep k s n [] ts l = absurd (omega arith)
+too-deep zero s n (i ∷ is) ts l = refl
+too-deep (suc k) s n (i ∷ is) ts l =
+    then-never (nth i (numbered (suc k) n ts)) _ (λ t. too-deep k (below (suc k) (t .0) (t .1 .0) s) (suc (t .0)) is (t .1 .1) (omega arith))
 
 -- with no index they are all
 pub whole-start : (m : Machine) → atomsFrom [] m ≡ some (atomsOf m)

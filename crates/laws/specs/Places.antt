@@ -49,6 +49,11 @@ module _ {A : Type 0} where
   splice-all p zero f g (x ∷ xs) h = let b = and-both (p x) (all p xs) h in all-append p (f x) xs (g x (b .0)) (b .1)
   splice-all p (suc i) f g (x ∷ xs) h = let b = and-both (p x) (all p xs) h in and-true (b .0) (splice-all p i f g xs (b .1))
 
+  pub splice-self : (i : ℕ) (xs : List A) (x : A) → nth i xs ≡ some x → splice i (λ y. x ∷ []) xs ≡ xs
+  splice-self i [] x h = refl
+  splice-self zero (y ∷ ys) x h = let e : y ≡ x = cc in rw e
+  splice-self (suc i) (y ∷ ys) x h = ap (λ (l : List A). y ∷ l) (splice-self i ys x h)
+
   nth-all : (p : A → Bool) (i : ℕ) (xs : List A) (x : A) → nth i xs ≡ some x → all p xs ≡ true → p x ≡ true
   nth-all p i [] x e h = let z : _≡_ {A = ℕ} 0 1 = cc in absurd (omega arith)
   nth-all p zero (y ∷ xs) x e h = let q : y ≡ x = cc in rw q at (and-both (p y) (all p xs) h .0)

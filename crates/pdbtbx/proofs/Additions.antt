@@ -18,7 +18,7 @@ use Rattle.machine.specs.Edit as Edit
 use Rattle.machine.specs.declared.Name.the-variants.{InsertionCode}
 use Rattle.machine.specs.declared.Prepared.the-variants.{Bad}
 use Rattle.machine.specs.declared.PreparedAddition.{PreparedAddition}
-use Rattle.laws.specs.Lists.{and-both, and-true}
+use Rattle.laws.specs.Lists.{and-both, and-true, then-never}
 use Rattle.pdbtbx.specs.Std.{Text, Answer, onCurrent, position, positionFromBack}
 use Rattle.pdbtbx.specs.Structs.{Model, Chain, Residue, Atom, Struct, validIdentifier, prepareIdentifier, prepareIdentifierUppercase}
 use Rattle.pdbtbx.specs.Words.{string, optionString, saysOf, structOf, structsOf, pdbOf}
@@ -175,10 +175,6 @@ module _ (a : Addition) (d : Domain a) (r : Ready a) where
   into-model t = rw (r .code .text, r .location .text) (model-square (saysOf 4 (t .0)) (t .1))
 
 -- ---- a call that doesn't panic has arguments that can be prepared
-
-then-never : {A B : Type 0} (o : Option A) (f : A → Option B) → ((x : A) → f x ≡ none) → andThen o f ≡ none
-then-never none f h = refl
-then-never (some x) f h = h x
 
 module _ (i : ℕ) (a : Addition) where
   never-model : ((atom : Atom) (self : Struct 4) → onModel a atom self ≡ none) → (pdb : List (Struct 4)) → addAtom i (argumentsOf a) pdb ≡ none

@@ -13,6 +13,7 @@ use Rattle.machine.specs.Record.{Fields}
 use Rattle.machine.specs.Store.{Branch}
 use Rattle.machine.specs.Edit.{up, branchAt, replaceAt, root, without, withChildren, keepAtoms, nonEmpty}
 use Rattle.laws.specs.Lists.{and-then, All}
+use Rattle.laws.specs.Places.{splice-self}
 use Rattle.pdbtbx.specs.Std.{Answer, at, remove}
 use Rattle.pdbtbx.specs.Structs.{Atom, Struct}
 use Rattle.pdbtbx.specs.Words.{saysOf, structOf, structsOf}
@@ -27,11 +28,6 @@ module _ {A : Type 0} where
   splice-at f i [] x h = refl
   splice-at f zero (y ∷ ys) x h = let e : y ≡ x = cc in rw e
   splice-at f (suc i) (y ∷ ys) x h = ap (λ (l : List A). y ∷ l) (splice-at f i ys x h)
-
-  splice-self : (i : ℕ) (xs : List A) (x : A) → nth i xs ≡ some x → splice i (λ y. x ∷ []) xs ≡ xs
-  splice-self i [] x h = refl
-  splice-self zero (y ∷ ys) x h = let e : y ≡ x = cc in rw e
-  splice-self (suc i) (y ∷ ys) x h = ap (λ (l : List A). y ∷ l) (splice-self i ys x h)
 
 module _ {A B : Type 0} (u : B → A) where
   nth-map : (i : ℕ) (ts : List B) → nth i (map u ts) ≡ Option·map u (nth i ts)

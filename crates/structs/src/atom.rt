@@ -5,7 +5,7 @@ ghost use Rattle.machine.specs.Edit.{storeStep, SetElement};
 use machine::Edited;
 use store::Checked;
 
-// Change request §6: where the element is missing.
+// Change request §6: sets an element that is missing.
 pub fn set_element(
     store: &mut [u64],
     model: u64,

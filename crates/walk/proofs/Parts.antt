@@ -24,7 +24,7 @@ use Rattle.laws.specs.Layout.{read-parts, records-read}
 use Rattle.laws.specs.Ordered.{head-parts, parts-head}
 use Rattle.laws.specs.Windows.{pruned}
 use Rattle.laws.specs.Scan.{above, scan, Over, above-self, over-below, scan-flats, scan-branch}
-use Rattle.laws.specs.Numbers.{numbered-at, branches-five, branches-count, atoms-stored, whole-start, under-start}
+use Rattle.laws.specs.Numbers.{numbered-at, branches-five, branches-count, atoms-stored, whole-start, under-start, too-deep}
 use Rattle.seek.specs.Seek.{Good, held, recordAt, recordsIn, fiveNumbers, isAtom, atomRecords, partOf}
 use Rattle.seek.specs.declared.Part.{Part}
 use Rattle.seek.proofs.Below.{recordsIn-cons, chunks-take, partAt, part-among}
@@ -257,18 +257,6 @@ module _ (w : List ℕ) (good : Good w) where
   agree zero g path s n (i ∷ is) ts a = tt
   agree (suc k) g path s n (i ∷ is) ts a =
       then-agree _ _ (nth i (numbered (suc k) n ts)) (λ u e. agree k (suc g) (set path g (u .0)) (below (suc k) (u .0) (u .1 .0) s) (suc (u .0)) is (u .1 .1) (down k g path s n ts a i u e))
-
-  -- more than four indexes
-  too-deep : (k : ℕ) (s : Site) (n : ℕ) (is : List ℕ) (ts : List (Branch k)) → k < length is → atomsUnder k s n is ts ≡ none
-  unfolding atomsUnder
-  too-deep k s n [] ts l = absurd (omega arith)
-  too-deep zero s n (i ∷ is) ts l = refl
-  too-deep (suc k) s n (i ∷ is) ts l = go (λ u. too-deep k (below (suc k) (u .0) (u .1 .0) s) (suc (u .0)) is (u .1 .1) (omega arith)) (nth i (numbered (suc k) n ts))
-    where
-      go : ((u : ℕ × Branch (suc k)) → atomsUnder k (below (suc k) (u .0) (u .1 .0) s) (suc (u .0)) is (u .1 .1) ≡ none) → (o : Option (ℕ × Branch (suc k)))
-          → andThen o (λ t. atomsUnder k (below (suc k) (t .0) (t .1 .0) s) (suc (t .0)) is (t .1 .1)) ≡ none
-      go f none = refl
-      go f (some u) = f u
 
   agree-start : (start : List ℕ) (b : Bool) → leb (length start) 4 ≡ b → Agree (cond b (partOf start (held w)) none) (atomsFrom start (held w))
   agree-start start true e =
