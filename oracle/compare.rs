@@ -108,6 +108,7 @@ fn main() {
     starts::compare();
     elements::compare();
     floats::compare().print("floats, each against each");
+    floats::compare_classes();
     writing::compare_formatting(&mut Random::new(seed)).print();
     writing::compare_limits();
     let mut totals = Totals::default();

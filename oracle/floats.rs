@@ -1,6 +1,8 @@
-// B-factors and occupancies each against each, in the float terms; and each float in each place of an addition.
-use crate::port::{Call, NewAtom};
+// B-factors and occupancies each against each, in the float terms; each float in each place of an addition; and patterns of every sign and
+// exponent by Rust's own classes.
+use crate::port::{self, Call, NewAtom};
 use crate::sides::{Counts, Sides};
+use std::num::FpCategory;
 
 // Zero, the ends of the subnormal and normal numbers, 1, 0.5 and 2^-52 with what decides a rounded difference near them; each with its
 // neighbours and negatives.
@@ -34,17 +36,27 @@ fn sample(floats: &[u64], counts: &mut Counts) -> Sides {
     sides
 }
 
+// An atom for each of its five floats, which has these bits.
+fn in_each_place(bits: u64) -> [NewAtom; 5] {
+    [
+        NewAtom { x: bits, ..NewAtom::default() },
+        NewAtom { y: bits, ..NewAtom::default() },
+        NewAtom { z: bits, ..NewAtom::default() },
+        NewAtom { occupancy: bits, ..NewAtom::default() },
+        NewAtom { b_factor: bits, ..NewAtom::default() },
+    ]
+}
+
+fn one_model(counts: &mut Counts) -> Sides {
+    let mut sides = Sides::open(vec![0; 9 * 12 + 1]);
+    sides.edit(&Call::AddModel(1), counts);
+    sides
+}
+
 fn additions(floats: &[u64], counts: &mut Counts) {
     for f in floats.iter().copied() {
-        let mut sides = Sides::open(vec![0; 9 * 12 + 1]);
-        sides.edit(&Call::AddModel(1), counts);
-        for values in [
-            NewAtom { x: f, ..NewAtom::default() },
-            NewAtom { y: f, ..NewAtom::default() },
-            NewAtom { z: f, ..NewAtom::default() },
-            NewAtom { occupancy: f, ..NewAtom::default() },
-            NewAtom { b_factor: f, ..NewAtom::default() },
-        ] {
+        let mut sides = one_model(counts);
+        for values in in_each_place(f) {
             sides.edit(&addition(values), counts);
         }
     }
@@ -68,4 +80,35 @@ pub fn compare() -> Counts {
     }
     additions(&all, &mut counts);
     counts
+}
+
+// Every sign and exponent, and fractions with none, one or all of their bits set.
+fn patterns() -> impl Iterator<Item = u64> {
+    let fractions: Vec<u64> = (0..52).map(|k| 1 << k).chain([0, (1 << 52) - 1]).collect();
+    (0..1 << 12).flat_map(move |high: u64| fractions.clone().into_iter().map(move |fraction| high << 52 | fraction))
+}
+
+// Change request §7: finite are zero, subnormal and normal. An addition takes no other pattern, and no store has one.
+pub fn compare_classes() {
+    let mut counts = Counts::default();
+    let mut stored = one_model(&mut counts);
+    assert_eq!(stored.edit(&addition(NewAtom::default()), &mut counts).result, 0);
+    let mut classes = [0u64; 5];
+    for bits in patterns() {
+        let class = f64::from_bits(bits).classify();
+        let order = [FpCategory::Zero, FpCategory::Subnormal, FpCategory::Normal, FpCategory::Infinite, FpCategory::Nan];
+        let place = order.iter().position(|c| *c == class).unwrap();
+        classes[place] += 1;
+        let mut sides = one_model(&mut counts);
+        for (i, values) in in_each_place(bits).into_iter().enumerate() {
+            let answer = sides.edit(&addition(values), &mut counts).result;
+            assert_eq!(answer, if place < 3 { 0 } else { 7 }, "{class:?} {bits:x} as float {i} of an addition");
+            let mut words = stored.store.clone();
+            words[4 * 12 + 3 + i] = bits;
+            assert_eq!(port::check(&words), if place < 3 { 0 } else { 2 }, "{class:?} {bits:x} as float {i} of a store");
+        }
+    }
+    counts.print("floats of every sign and exponent");
+    let [zero, subnormal, normal, infinite, not_a_number] = classes;
+    println!("  zero {zero}, subnormal {subnormal}, normal {normal}, infinite {infinite}, not a number {not_a_number}; in five places each");
 }

@@ -5,11 +5,12 @@ use mathlib.Core.Path.{_≡_, refl}
 use mathlib.Core.Bool.{Bool, cond}
 use mathlib.Core.List.{List, [], _∷_, _++_, map}
 use lib.ListN.{length, replicate}
-use lib.Ieee.{ofBits, sub, lt}
+use lib.Ieee.{binary64, ofBits, sub, lt}
 use Rattle.machine.specs.Lists.{bytes, concatMap}
 use Rattle.machine.specs.Answer.{Result, ok, refused, refusalNumber}
 use Rattle.machine.specs.Text.{packed, pack, unpacked, withoutZeros, textOf, trimStart, trim, chainId, uppercaseOr, atomName, alternativeLocation, insertionCode, Optional, matches, matchesOptional, storedBy, packedText, before}
-use Rattle.machine.specs.Record.{Words, words, fieldsOf, goodValues, goodFields, goodRecord, readOut}
+use Rattle.machine.specs.Classes.{classOfFields, classOf, classOfValue, finiteClass}
+use Rattle.machine.specs.Record.{Words, words, fieldsOf, finite, goodValues, goodFields, goodRecord, readOut}
 use Rattle.machine.specs.Store.{flat, atomCount, laid, layOut, inOrder, goodLayout, sections, group, readStore, openRun}
 use Rattle.machine.specs.Query.{codes, nodeOf, nodesOf, run, leavesOne, readTree, treeValue, termValue, window, tables, packedName}
 use Rattle.machine.specs.Find.{enter, numbered, atomsIn, atomsUnder, hitsFrom, findRun, findFrom}
@@ -17,6 +18,8 @@ use Rattle.machine.specs.Edit.{addition, Call, AddModel, AddAtom, Remove
 use Rattle.machine.specs.Lookup.{serials, lookupIn, lookupRun}
 use Rattle.machine.specs.Program.{readInput, digits, printed, programRun}
 use Rattle.machine.specs.Cases.{record12, store, S, renamed, node, element7, found, absent, present, atom, zeros, atomRecord, file, eightBytes, Case}
+use Rattle.machine.specs.declared.FloatClass.{FloatClass}
+use Rattle.machine.specs.declared.FloatClass.the-variants.{Zero, Subnormal, Normal, Infinite, NotANumber}
 use Rattle.machine.specs.declared.Prepared.{Prepared}
 use Rattle.machine.specs.declared.Prepared.the-variants.{Stored, Absent, Bad}
 
@@ -28,6 +31,18 @@ ruled Bad = 2 ∷ []
 
 abbrev bit : Bool → List ℕ
 bit b = cond b 1 0 ∷ []
+
+-- the five classes in the request's order, from 1
+abbrev place : FloatClass → ℕ
+place Zero = 1
+place Subnormal = 2
+place Normal = 3
+place Infinite = 4
+place NotANumber = 5
+
+-- a pattern's class by its fields and by its value; whether that class is finite, and whether the pattern is
+abbrev classes : ℕ → List ℕ
+classes b = place (classOf b) ∷ place (classOfValue (ofBits binary64 b)) ∷ bit (finiteClass (classOf b)) ++ bit (finite b)
 
 -- the refusal of a tree, or of a program's input; 0 for none
 abbrev refusalOf : {A : Type 0} → Result A → List ℕ
@@ -175,6 +190,28 @@ examples =
     ∷ example (bit (before (bytes "BA") (bytes "AZ"))) (0 ∷ [])
     ∷ example (bit (before (bytes "A") (bytes "AB"))) (1 ∷ [])
     ∷ example (bit (before (bytes "AB") (bytes "A"))) (0 ∷ [])
+    -- floats: zero, with either sign
+    ∷ example (classes 0x0000_0000_0000_0000) (1 ∷ 1 ∷ 1 ∷ 1 ∷ [])
+    ∷ example (classes 0x8000_0000_0000_0000) (1 ∷ 1 ∷ 1 ∷ 1 ∷ [])
+    -- the least subnormal number and the greatest
+    ∷ example (classes 0x0000_0000_0000_0001) (2 ∷ 2 ∷ 1 ∷ 1 ∷ [])
+    ∷ example (classes 0x000f_ffff_ffff_ffff) (2 ∷ 2 ∷ 1 ∷ 1 ∷ [])
+    ∷ example (classes 0x8000_0000_0000_0001) (2 ∷ 2 ∷ 1 ∷ 1 ∷ [])
+    ∷ example (classes 0x800f_ffff_ffff_ffff) (2 ∷ 2 ∷ 1 ∷ 1 ∷ [])
+    -- the least normal number, 1 and the greatest
+    ∷ example (classes 0x0010_0000_0000_0000) (3 ∷ 3 ∷ 1 ∷ 1 ∷ [])
+    ∷ example (classes 0x8010_0000_0000_0000) (3 ∷ 3 ∷ 1 ∷ 1 ∷ [])
+    ∷ example (classes 0x3ff0_0000_0000_0000) (3 ∷ 3 ∷ 1 ∷ 1 ∷ [])
+    ∷ example (classes 0x7fef_ffff_ffff_ffff) (3 ∷ 3 ∷ 1 ∷ 1 ∷ [])
+    ∷ example (classes 0xffef_ffff_ffff_ffff) (3 ∷ 3 ∷ 1 ∷ 1 ∷ [])
+    -- the infinities
+    ∷ example (classes 0x7ff0_0000_0000_0000) (4 ∷ 4 ∷ 0 ∷ 0 ∷ [])
+    ∷ example (classes 0xfff0_0000_0000_0000) (4 ∷ 4 ∷ 0 ∷ 0 ∷ [])
+    -- not a number, from the first pattern to the last
+    ∷ example (classes 0x7ff0_0000_0000_0001) (5 ∷ 5 ∷ 0 ∷ 0 ∷ [])
+    ∷ example (classes 0x7ff8_0000_0000_0000) (5 ∷ 5 ∷ 0 ∷ 0 ∷ [])
+    ∷ example (classes 0xfff0_0000_0000_0001) (5 ∷ 5 ∷ 0 ∷ 0 ∷ [])
+    ∷ example (classes 0xffff_ffff_ffff_ffff) (5 ∷ 5 ∷ 0 ∷ 0 ∷ [])
     -- the store: the length, the end, the gap, the kinds, words not named
     ∷ example (openRun (replicate 3 9) .0 ++ openRun (replicate 3 9) .1) (0 ∷ 0 ∷ 0 ∷ 0 ∷ [])
     ∷ example (refusalOf (readStore [])) (1 ∷ [])
@@ -281,7 +318,7 @@ examples =
     ∷ []
 
 pub shown : map (λ (c : Case). c .given) examples ≡ map (λ (c : Case). c .stated) examples
-unfolding examples serialStore S renamed packed unpacked withoutZeros textOf trimStart trim chainId uppercaseOr atomName matches storedBy packedText words fieldsOf goodValues goodFields goodRecord readOut flat atomCount laid layOut inOrder goodLayout sections group readStore openRun codes nodeOf nodesOf run leavesOne readTree treeValue termValue tables window enter atomsIn atomsUnder hitsFrom findFrom branchAt replaceAt addModel prepare upsert addPrepared removeAt removeFirst keepAtoms removeAtomsBy nonEmpty removeEmpty joinAt setAt machineStep stepBy storeStep storeAfter storeAnswers numbered serials lookupIn lookupRun readInput digits printed programRun ofBits sub lt before
+unfolding examples serialStore S renamed packed unpacked withoutZeros textOf trimStart trim chainId uppercaseOr atomName matches storedBy packedText words fieldsOf goodValues goodFields goodRecord readOut flat atomCount laid layOut inOrder goodLayout sections group readStore openRun codes nodeOf nodesOf run leavesOne readTree treeValue termValue tables window enter atomsIn atomsUnder hitsFrom findFrom branchAt replaceAt addModel prepare upsert addPrepared removeAt removeFirst keepAtoms removeAtomsBy nonEmpty removeEmpty joinAt setAt machineStep stepBy storeStep storeAfter storeAnswers numbered serials lookupIn lookupRun readInput digits printed programRun ofBits sub lt classOfFields classOf classOfValue before
 shown = refl
 
 -- "over 65,536 bytes": the next multiple of 8 is refused

@@ -1,6 +1,7 @@
 pub mod Lists
 pub mod Answer
 pub mod Text
+pub mod Classes
 pub mod Record
 pub mod Store
 pub mod Kleene

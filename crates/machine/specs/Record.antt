@@ -91,7 +91,7 @@ isFinite nan = false
 isFinite (inf s) = false
 isFinite (fin s m e) = true
 
--- "f64 bits, finite"
+-- "f64 bits, finite"; Classes.antt has the classes of IEEE 754 of which this is so
 abbrev pub finite : ℕ → Bool
 finite b = isFinite (ofBits binary64 b)
 

@@ -100,6 +100,15 @@ impl Record {
     pub const HETERO: usize = 10;
 }
 
+// IEEE 754's classes of a float. Finite are exactly the first three.
+pub enum FloatClass {
+    Zero,
+    Subnormal,
+    Normal,
+    Infinite,
+    NotANumber,
+}
+
 // An atom read out of its record.
 pub struct AtomRec {
     pub serial: u64,
