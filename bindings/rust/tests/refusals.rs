@@ -53,6 +53,32 @@ fn edits() {
     assert_eq!(refused(|s| s.join_conformers([0; 4], [0; 4])), Error::JoinWithItself);
 }
 
+// The first and the last pattern of each class, with either sign: zero, subnormal and normal are stored as they are, the others refused.
+#[test]
+fn classes_of_floats() {
+    use std::num::FpCategory::*;
+    let ends = [
+        (Zero, 0, 0),
+        (Subnormal, 1, 0x000f_ffff_ffff_ffff),
+        (Normal, 0x0010_0000_0000_0000, 0x7fef_ffff_ffff_ffff),
+        (Infinite, 0x7ff0_0000_0000_0000, 0x7ff0_0000_0000_0000),
+        (Nan, 0x7ff0_0000_0000_0001, 0x7fff_ffff_ffff_ffff),
+    ];
+    for (class, first, last) in ends {
+        for bits in [first, last, 1 << 63 | first, 1 << 63 | last] {
+            let z = f64::from_bits(bits);
+            assert_eq!(z.classify(), class);
+            let mut store = Store::new();
+            store.add_model(1).unwrap();
+            let added = store.add_atom(0, NewAtom { z, ..NewAtom::default() }, "A", (1, None), ("GLY", None));
+            match class {
+                Infinite | Nan => assert_eq!(added, Err(Error::BadValue)),
+                _ => assert_eq!(store.atoms().next().unwrap().z().to_bits(), bits),
+            }
+        }
+    }
+}
+
 #[test]
 fn room() {
     let mut words = one_atom().words().to_vec();
