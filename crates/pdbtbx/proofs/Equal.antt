@@ -33,7 +33,7 @@ use Rattle.pdbtbx.specs.Edits.{addModel, atPosition, removeAt, removeByI
 use Rattle.pdbtbx.specs.Calls.{optionOf, searchOf, chosen, sameChain, sameResidue, sameConformer, sameAtom, fillElement, edit}
 use Rattle.pdbtbx.specs.Demand.{Reads, Flagged, InDomain, bit}
 use Rattle.pdbtbx.proofs.Values.{value-same, over-open, untold, add-value, add-complete}
-use Rattle.pdbtbx.proofs.Hits.{toldAt, told-value}
+use Rattle.pdbtbx.proofs.Hits.{toldAt, search-value}
 use Rattle.pdbtbx.proofs.Names.{matches-given, both}
 use Rattle.pdbtbx.proofs.Additions.{add-atom}
 use Rattle.pdbtbx.proofs.Removals.{at-position, no-position, remove-at, remove-nowhere, isSome, index, withoutOne, remove-by-id, without-found, join-at, remove-empty, remove-atoms-by}
@@ -152,7 +152,7 @@ chosen-value tree h a =
     let f = matchesAt zero (saysOf zero a) in
     let s = searchOf tree in
     known-true (complete (addInfo f s))
-    ∙ ap isTrue (add-complete f s ∙ add-value f untold s ∙ value-same _ _ (λ t. over-open (f t) ∙ told-value (enter zero a nowhere) t) s ∙ sym (h .kleene (termValue tables (enter zero a nowhere))))
+    ∙ ap isTrue (add-complete f s ∙ add-value f untold s ∙ value-same _ _ (λ t. over-open (f t)) s ∙ search-value tree h (enter zero a nowhere))
     ∙ sym (Bool·not-not (isTrue (treeValue (termValue tables (enter zero a nowhere)) tree)))
 
 -- ---- the tests of the four removals by id

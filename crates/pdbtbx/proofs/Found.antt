@@ -22,7 +22,7 @@ use Rattle.pdbtbx.specs.Find.{Item, find, findUnder, findAt}
 use Rattle.pdbtbx.specs.Calls.{searchOf}
 use Rattle.pdbtbx.specs.Demand.{Reads}
 use Rattle.pdbtbx.proofs.Vecs.{filter-map}
-use Rattle.pdbtbx.proofs.Hits.{Above, hit, numbersOf, branchItem, branchItems, items-same, nowhere-above, start, found-below}
+use Rattle.pdbtbx.proofs.Hits.{Above, hit, numbersOf, branchItem, branchItems, items-same, nowhere-above, start, found-below, search-value}
 
 -- a tree's value at a site, with all that the site knows
 abbrev valueHere : List ℕ → Site → Tri
@@ -88,7 +88,7 @@ module _ (t : List ℕ) (r : Reads t) where
       → map (λ (l : List ℕ). p ++ l) (find Says matchesAt k (searchOf t) (branchItems k n ts)) ≡ map numbersOf (filter (λ z. isHit (valueHere t z)) (concatMapFrom (size k) (atomsIn k (start p)) n ts))
   find-below k l p n ts =
       found-below (searchOf t) k l p n ts
-      ∙ ap (map numbersOf) (filter-same (hit (searchOf t)) _ (λ z. ap isHit (sym (r .kleene (termValue tables (z .place))))) (concatMapFrom (size k) (atomsIn k (start p)) n ts))
+      ∙ ap (map numbersOf) (filter-same (hit (searchOf t)) _ (λ z. ap isHit (search-value t r (z .place))) (concatMapFrom (size k) (atomsIn k (start p)) n ts))
 
   -- below any site, whose own level and those above stay undecided
   find-site : (k : ℕ) → k ≤ 4 → (z : Site) → Above k (z .place) → (n : ℕ) (ts : List (Branch k))

@@ -1,5 +1,5 @@
--- The crate's `find`, at each of its five levels, lists what document 01's definition lists, for every machine and every accepted tree.
--- Assumes nothing.
+-- The crate's `find`, at each of its five levels and for every machine, lists the atoms at which its search isn't false by its own terms; and these are
+-- document 01's. Assumes nothing.
 use Prim.Native.Nat.{ℕ, zero, suc, _+_, _-_, _≤_}
 use mathlib.Core.Path.{_≡_, refl, sym, ap, ap₂, subst, _∙_}
 use mathlib.Core.Bool.{Bool, true, false, not, _&&_, cond}
@@ -11,8 +11,9 @@ use Rattle.machine.specs.Lists.{orElse, andThen, keep, filter, sum, concatMapFr
 use Rattle.machine.specs.Record.{Fields, Conformer, Atom, readOut}
 use Rattle.machine.specs.Store.{Branch, flat}
 use Rattle.machine.specs.Kleene.{decided, isHit}
-use Rattle.machine.specs.Query.{Place, window, sameZ, close, dropSign, known, elementIs, amongResidues, member, tables, termValue}
+use Rattle.machine.specs.Query.{Place, window, treeValue, sameZ, close, dropSign, known, elementIs, amongResidues, member, tables, termValue}
 use Rattle.machine.specs.Find.{Site, enter, below, nowhere, size, atomsIn}
+use Rattle.machine.specs.declared.Tri.{Tri}
 use Rattle.machine.specs.declared.Tri.the-variants.{False, Undecided}
 use Rattle.machine.specs.declared.Term.{Term}
 use Rattle.machine.specs.declared.Term.the-variants.{ModelSerialNumber, ModelSerialNumberRange, ChainId, ChainIdRange, ResidueSerialNumber, ResidueSerialNumberRange, ResidueInsertionCode, ResidueId, ConformerName, ConformerAlternativeLocation, ConformerId, AtomSerialNumber, AtomSerialNumberRange, AtomName, Element, BFactor, BFactorRange, Occupancy, OccupancyRange, Backbone, SideChain, Hetero}
@@ -26,7 +27,8 @@ use Rattle.pdbtbx.specs.Words.{isize, saysOf, structOf, structsOf}
 use Rattle.pdbtbx.specs.Search.{Search}
 use Rattle.pdbtbx.specs.Matches.{optionalMatches, matchesAt}
 use Rattle.pdbtbx.specs.Find.{Item, find, countOf, item, items}
-use Rattle.pdbtbx.specs.Demand.{value}
+use Rattle.pdbtbx.specs.Calls.{searchOf}
+use Rattle.pdbtbx.specs.Demand.{value, Reads}
 use Rattle.pdbtbx.proofs.Values.{value-same, listed, find-all}
 use Rattle.pdbtbx.proofs.Texts.{same-string, eqb-swap, same-option, before-string, among-amino-acids, among-backbone}
 
@@ -81,7 +83,7 @@ side-then (some c) p amino f g h k = rw (← h c) (go (amino c))
     go true = known-then p f g k
     go false = refl
 
-pub told-value : (e : Place) (t : Term) → toTri (toldAt e t) ≡ termValue tables e t
+told-value : (e : Place) (t : Term) → toTri (toldAt e t) ≡ termValue tables e t
 unfolding toldAt optionalMatches termValue saysOf readOut withinEpsilon abs close dropSign
 told-value e (ModelSerialNumber n) = simp (none-then, else-none) (known-then (e .model) _ _ (λ m. eqb-swap n (m .serial)))
 told-value e (ModelSerialNumberRange low high) = simp (none-then, else-none) (known-then (e .model) _ _ (λ m. refl))
@@ -105,6 +107,14 @@ told-value e (OccupancyRange low high) = simp none-then (known-then (e .atom) _ 
 told-value e Backbone = simp none-then (side-then (e .conformer) (e .atom) _ _ _ (λ c. among-amino-acids (c .name)) (λ a. among-backbone (a .name)))
 told-value e SideChain = simp none-then (side-then (e .conformer) (e .atom) _ _ _ (λ c. among-amino-acids (c .name)) (λ a. ap not (among-backbone (a .name))))
 told-value e Hetero = simp none-then (known-then (e .atom) _ _ (λ a. refl))
+
+-- the crate's own terms at a place
+abbrev pub own : Place → Term → Tri
+own e t = toTri (toldAt e t)
+
+-- they give the search of an accepted tree the tree's value
+pub search-value : (t : List ℕ) → Reads t → (e : Place) → value (own e) (searchOf t) ≡ treeValue (termValue tables e) t
+search-value t r e = value-same _ _ (told-value e) (searchOf t) ∙ sym (r .kleene (termValue tables e))
 
 -- ---- a level more
 
@@ -143,7 +153,7 @@ told-enter (suc (suc (suc (suc (suc k))))) l f e w t = absurd (omega arith)
 -- ---- the machine's atoms
 
 abbrev pub hit : Search Term → Site → Bool
-hit s z = isHit (value (termValue tables (z .place)) s)
+hit s z = isHit (value (own (z .place)) s)
 
 abbrev pub numbersOf : Site → List ℕ
 numbersOf z = z .numbers
@@ -196,7 +206,7 @@ module _ (s : Search Term) where
     told a = isHit (value (λ t. toTri (orElse (toldAt (z .place) t) (matchesAt zero (a .1) t))) s)
 
     same-hit : (n : ℕ) (a : Branch zero) → told (n, saysOf zero a) ≡ hit s (below zero n a z)
-    same-hit n a = ap isHit (value-same _ _ (λ t. ap toTri (told-enter zero (omega arith) a (z .place) w t) ∙ told-value (enter zero a (z .place)) t) s)
+    same-hit n a = ap isHit (value-same _ _ (λ t. ap toTri (told-enter zero (omega arith) a (z .place) w t)) s)
 
     atoms : (n : ℕ) (ts : List (Branch zero)) → map (λ (a : Item Says zero). z .numbers ++ (a .0 ∷ [])) (filter told (branchItems zero n ts)) ≡ map numbersOf (filter (hit s) (concatMapFrom (size zero) (atomsIn zero z) n ts))
     unfolding branchItem atomsIn
@@ -246,7 +256,8 @@ nowhere-above (suc (suc (suc (suc (suc k))))) l = absurd (omega arith)
 abbrev pub start : List ℕ → Site
 start p = record { numbers = p; place = nowhere }
 
--- the crate's `find` at any of its levels: what it lists, after the numbers of the start, is document 01's value at the atoms below, with nothing of the start known
+-- the crate's `find` at any of its levels: what it lists, after the numbers of the start, are the atoms below at which its search isn't false by its own terms, with
+-- nothing of the start known
 pub found-below : (s : Search Term) (k : ℕ) → k ≤ 4 → (p : List ℕ) (n : ℕ) (ts : List (Branch k))
     → map (λ (h : List ℕ). p ++ h) (find Says matchesAt k s (branchItems k n ts)) ≡ map numbersOf (filter (hit s) (concatMapFrom (size k) (atomsIn k (start p)) n ts))
 unfolding toldAt
