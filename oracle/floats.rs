@@ -88,6 +88,9 @@ fn patterns() -> impl Iterator<Item = u64> {
     (0..1 << 12).flat_map(move |high: u64| fractions.clone().into_iter().map(move |fraction| high << 52 | fraction))
 }
 
+// In the request's order.
+const CLASSES: [FpCategory; 5] = [FpCategory::Zero, FpCategory::Subnormal, FpCategory::Normal, FpCategory::Infinite, FpCategory::Nan];
+
 // Change request §7: finite are zero, subnormal and normal. An addition takes no other pattern, and no store has one.
 pub fn compare_classes() {
     let mut counts = Counts::default();
@@ -96,8 +99,7 @@ pub fn compare_classes() {
     let mut classes = [0u64; 5];
     for bits in patterns() {
         let class = f64::from_bits(bits).classify();
-        let order = [FpCategory::Zero, FpCategory::Subnormal, FpCategory::Normal, FpCategory::Infinite, FpCategory::Nan];
-        let place = order.iter().position(|c| *c == class).unwrap();
+        let place = CLASSES.iter().position(|c| *c == class).unwrap();
         classes[place] += 1;
         let mut sides = one_model(&mut counts);
         for (i, values) in in_each_place(bits).into_iter().enumerate() {
