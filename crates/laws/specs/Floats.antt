@@ -1,8 +1,8 @@
 -- Change request §7: a pattern has the class of the value that it stands for, and finite are exactly the patterns of the first three classes.
 -- Assumes nothing.
-use borrow.Author.Tests.{eqb-true, eqb-false, ne-eqb, ltb-true, ltb-false, lt-ltb, le-ltb}
+use borrow.Author.Tests.{ne-eqb, ltb-true, ltb-false, lt-ltb, le-ltb}
 use mathlib.Core.Path.{_≡_, refl, sym, ap, _∙_}
-use mathlib.Core.Bool.{Bool, true, false, not, cond}
+use mathlib.Core.Bool.{Bool, true, false, cond, false≢true}
 use Prim.Native.Nat.{ℕ, zero, suc, _+_, _*_, _/_, _%_, _^_, _≤_, _<_}
 use native.Mathlib.Nat.{zero-mul, mul-one, mul-assoc, mul-pos, mul-le-mul-left, mul-le-mul-right, mul-lt-mul-of-pos-right}
 use native.Mathlib.Omega.{arith}
@@ -93,26 +93,11 @@ value-finite (fin s m e) = go (eqb m 0) (lt (fin false m e) leastNormal)
 pub finite-classes : (b : ℕ) → finite b ≡ finiteClass (classOf b)
 finite-classes b = value-finite (ofBits binary64 b) ∙ ap finiteClass (sym (class-value b))
 
--- ---- without the fields: finite are the patterns below the infinity's, the sign's bit taken off
-
-fields-finite : (x t : ℕ) → finiteClass (classOfFields x t) ≡ not (eqb x 2047)
-unfolding classOfFields
-fields-finite x t = go (eqb x 2047) (eqb x 0) (eqb t 0)
+-- the exponent's field of a finite pattern isn't all ones
+pub finite-field : (b : ℕ) → finite b ≡ true → b / 2 ^ 52 % 2 ^ 11 ≡ 2047 → ⊥
+unfolding classOf classOfFields
+finite-field b f e = go (eqb (b % 2 ^ 52) 0) (sym (ap (λ (x : ℕ). finiteClass (classOfFields x (b % 2 ^ 52))) e) ∙ sym (finite-classes b) ∙ f)
   where
-    go : (e z f : Bool) → finiteClass (cond e (cond f Infinite NotANumber) (cond z (cond f Zero Subnormal) Normal)) ≡ not e
-    go true z true = refl
-    go true z false = refl
-    go false true true = refl
-    go false true false = refl
-    go false false f = refl
-
-field-below : (b : ℕ) → not (eqb (b / 2 ^ 52 % 2 ^ 11) 2047) ≡ ltb (b % 2 ^ 63) 0x7ff0_0000_0000_0000
-field-below b = go (eqb (b / 2 ^ 52 % 2 ^ 11) 2047) refl
-  where
-    go : (e : Bool) → eqb (b / 2 ^ 52 % 2 ^ 11) 2047 ≡ e → not e ≡ ltb (b % 2 ^ 63) 0x7ff0_0000_0000_0000
-    go true p = let q = eqb-true (b / 2 ^ 52 % 2 ^ 11) 2047 p in sym (le-ltb (b % 2 ^ 63) 0x7ff0_0000_0000_0000 (omega arith))
-    go false p = let q = eqb-false (b / 2 ^ 52 % 2 ^ 11) 2047 p in sym (lt-ltb (b % 2 ^ 63) 0x7ff0_0000_0000_0000 (omega arith))
-
-pub finite-below : (b : ℕ) → ltb (b % 2 ^ 63) 0x7ff0_0000_0000_0000 ≡ finite b
-unfolding classOf
-finite-below b = sym (finite-classes b ∙ fields-finite (b / 2 ^ 52 % 2 ^ 11) (b % 2 ^ 52) ∙ field-below b)
+    go : (z : Bool) → finiteClass (cond z Infinite NotANumber) ≡ true → ⊥
+    go true p = false≢true p
+    go false p = false≢true p

@@ -22,7 +22,8 @@ classOf bits = classOfFields (bits / 2 ^ 52 % 2 ^ 11) (bits % 2 ^ 52)
 abbrev pub leastNormal : Float
 leastNormal = fin false 1 (negsuc 1021)
 
--- the class of a value: a number other than zero is subnormal where its magnitude lies below the least normal one
+-- the class of a value, which is not a number, an infinity, or m * 2 ^ e with a sign: a number other than zero is subnormal where its magnitude lies
+-- below the least normal one
 unfoldable pub classOfValue : Float → FloatClass
 classOfValue nan = NotANumber
 classOfValue (inf sign) = Infinite

@@ -9,10 +9,10 @@ use lib.Dec.{lit≤, lit<, ltb, leb, eqb}
 use lib.Pow.{pow-add, pow-pos, pow-mono, shl-exact}
 use lib.Ieee.{nan, inf, binary64, ofBits, odd, ofFields}
 use lib.Ieee.Exact.{HasValue, odd-sign}
-use borrow.Author.Tests.{ltb-true, lt-ltb, le-ltb, ne-eqb}
+use borrow.Author.Tests.{lt-ltb, le-ltb, ne-eqb}
 use Rattle.machine.specs.Record.{finite}
 use Rattle.machine.specs.Rounding.{nearestWhole, inUnits}
-use Rattle.laws.specs.Floats.{finite-below}
+use Rattle.laws.specs.Floats.{finite-field}
 use Rattle.laws.specs.Rounding.{nearest-once, nearest-same, nearest-none, quotient-below, units-of-value}
 
 -- ---- power
@@ -94,7 +94,7 @@ wide-above b unit x e h l U =
 pub too-wide : (b unit : ℕ) → 1074 < b % 9223372036854775808 / 4503599627370496 → finite b ≡ true → 1 ≤ unit
     → 10000000 ≡ min (inUnits unit (ofBits binary64 b)) 10000000
 too-wide b unit h f U =
-    let l : b % 2 ^ 63 < 0x7ff0_0000_0000_0000 = ltb-true (b % 2 ^ 63) 0x7ff0_0000_0000_0000 (finite-below b ∙ f) in
+    let l = finite-field b f in
     let w : 10000000 ≤ inUnits unit (ofBits binary64 b) = wide-above b unit (field b - 1) (omega arith) (omega arith) (omega arith) U in
     omega arith
 
