@@ -30,7 +30,7 @@
 
 /* The version of this header, as one number too: major * 1,000,000 + minor * 1,000 + patch. */
 #define JUBRELTI_VERSION_MAJOR 0
-#define JUBRELTI_VERSION_MINOR 8
+#define JUBRELTI_VERSION_MINOR 9
 #define JUBRELTI_VERSION_PATCH 0
 #define JUBRELTI_VERSION (JUBRELTI_VERSION_MAJOR * 1000000 + JUBRELTI_VERSION_MINOR * 1000 + JUBRELTI_VERSION_PATCH)
 
@@ -75,7 +75,8 @@ enum {
     /* bindings/tables: end of results */
 };
 
-/* Codes of a tree's nodes. A node is three words: code, p, q; those not named here are 0. */
+/* Codes of a tree's nodes. A node is three words: code, p, q; those not named here are 0. On a hetero atom backbone and side chain are
+   false, whatever its conformer is called. */
 enum {
     /* bindings/tables: codes */
     JUBRELTI_MODEL_SERIAL_NUMBER = 1,             /* number */
@@ -176,7 +177,7 @@ JubreltiFind jubrelti_find(const uint64_t *JUBRELTI_RESTRICT store, size_t lengt
 
 /* The same among the atoms that stand under a position; under one that is empty there are no hits. Terms of the position's own level
    and above are undecided, so that a chain's id asked of a chain excludes nothing; from a conformer, backbone and side chain go by
-   the atom's name alone. A hit has all five record numbers here too. */
+   the atom alone. A hit has all five record numbers here too. */
 JubreltiFind jubrelti_model_find(const uint64_t *JUBRELTI_RESTRICT store, size_t length, uint64_t model,
                                  const uint64_t *JUBRELTI_RESTRICT tree, size_t tree_length, uint64_t *JUBRELTI_RESTRICT out,
                                  size_t out_length);

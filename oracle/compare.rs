@@ -4,6 +4,7 @@
 mod elements;
 mod fitting;
 mod floats;
+mod hetero;
 mod identifiers;
 mod judges;
 mod junk;
@@ -53,6 +54,8 @@ fn as_one(r: &mut Random, length: usize, calls: &[Call], answers: &[u64], after:
 #[derive(Default)]
 struct Totals {
     counts: Counts,
+    // Stored hetero atoms in conformers with one of the 31 names, at the ends of the lists.
+    soaked: u64,
     elements: elements::Counts,
     stores: Spoilt,
     reads: reading::Counts,
@@ -61,7 +64,7 @@ struct Totals {
 
 // One random list; the number of spoilt ones made from it. The package reads at its end and at every eighth call.
 fn list(r: &mut Random, totals: &mut Totals) -> u64 {
-    let Totals { counts, elements, stores, reads, writes } = totals;
+    let Totals { counts, soaked, elements, stores, reads, writes } = totals;
     let length = 1 + r.below(30 * 12) as usize;
     let mut sides = Sides::open((0..length).map(|_| r.word()).collect());
     let (mut calls, mut answers) = (Vec::new(), Vec::new());
@@ -87,6 +90,7 @@ fn list(r: &mut Random, totals: &mut Totals) -> u64 {
             }
         }
     }
+    *soaked += hetero::under_amino_names(&sides.judges.machine);
     reading::compare(&sides, reads);
     writing::compare(&sides.store, &sides.judges.machine, writes);
     let other = r.below(30 * 12);
@@ -114,8 +118,9 @@ fn main() {
     let mut totals = Totals::default();
     let random = |i: u64| Random::new(seed.wrapping_mul(1_000_003).wrapping_add(i));
     let spoilt: u64 = (0..lists).map(|i| list(&mut random(i), &mut totals)).sum();
-    let Totals { counts, elements, stores, mut reads, writes } = totals;
+    let Totals { counts, soaked, elements, stores, mut reads, writes } = totals;
     counts.print(&format!("seed {seed}, {lists} random lists and {spoilt} spoilt ones"));
+    println!("  hetero atoms under names of amino acids, at the ends of the lists: {soaked}");
     elements.print();
     stores.print("the stores that they leave, each spoilt in four ways");
     let mut places = Counts::default();

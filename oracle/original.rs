@@ -94,7 +94,7 @@ pub fn edit(p: &mut PDB, call: &Call) -> bool {
         Call::RemoveConformerById(at, name, o) => return residue(p, at).remove_conformer_by_id((text(name), optional(o))),
         Call::RemoveAtomBySerialNumber(at, serial) => return conformer(p, at).remove_atom_by_serial_number(*serial as usize),
         Call::RemoveAtomsBy(i, tree) => {
-            let search = search(&plain::read_tree(tree).unwrap());
+            let search = search_for(&plain::read_tree(tree).unwrap());
             model(p, *i).remove_atoms_by(|a| search.add_atom_info(a).complete() == Some(true));
         }
         Call::RemoveEmpty(i) => model(p, *i).remove_empty(),
@@ -230,9 +230,25 @@ macro_rules! searches {
 
 searches!(pdbtbx);
 
+// Change request §8: "The crate's side of the comparison gets And Not Hetero on both terms."
+fn and_not_hetero(tree: &plain::Tree) -> plain::Tree {
+    use plain::Tree;
+    match tree {
+        Tree::Term(20 | 21, _, _) => Tree::Ops(23, Box::new(tree.clone()), Box::new(Tree::Not(Box::new(Tree::Term(22, 0, 0))))),
+        Tree::Term(..) | Tree::Known(_) => tree.clone(),
+        Tree::Not(a) => Tree::Not(Box::new(and_not_hetero(a))),
+        Tree::Ops(o, a, b) => Tree::Ops(*o, Box::new(and_not_hetero(a)), Box::new(and_not_hetero(b))),
+    }
+}
+
+// The search that the crate is given for a tree.
+pub fn search_for(tree: &plain::Tree) -> pdbtbx::Search {
+    search(&and_not_hetero(tree))
+}
+
 // The hits of the crate's find at a start of none to four indexes, each part numbered as its record is. The crate's hits say what stands
 // below the start; the start and what stands above it are put before that.
-pub fn find(p: &PDB, start: &[u64], tree: &plain::Tree) -> Vec<[u64; 5]> {
+pub fn find(p: &PDB, start: &[u64], search: pdbtbx::Search) -> Vec<[u64; 5]> {
     use pdbtbx::{ContainsAtomConformer, ContainsAtomConformerResidue, ContainsAtomConformerResidueChain, ContainsAtomConformerResidueChainModel};
     let mut numbers = std::collections::HashMap::new();
     let mut number = |part: *const ()| {
@@ -255,7 +271,6 @@ pub fn find(p: &PDB, start: &[u64], tree: &plain::Tree) -> Vec<[u64; 5]> {
     macro_rules! numbered {
         ($($part:expr),*) => { [$(numbers[&($part as *const _ as *const ())]),*] };
     }
-    let search = search(tree);
     let index = |level: usize| start[level] as usize;
     if start.is_empty() {
         return p.find(search).map(|h| numbered!(h.model(), h.chain(), h.residue(), h.conformer(), h.atom())).collect();

@@ -478,6 +478,10 @@ fn among(names: &[&str], word: u64) -> bool {
     names.iter().any(|n| pack(n.as_bytes()) == word)
 }
 
+pub fn is_amino_acid(name: u64) -> bool {
+    among(&AMINO_ACIDS, name)
+}
+
 fn close(bits: u64, q: u64) -> bool {
     (f64::from_bits(bits) - f64::from_bits(q)).abs() < 2f64.powi(-52)
 }
@@ -499,6 +503,8 @@ fn atom_term((code, p, q): (u64, u64, u64), a: &Atom) -> Option<bool> {
         17 => Some(between_floats(p, q, v.b_factor)),
         18 => Some(close(v.occupancy, p)),
         19 => Some(between_floats(p, q, v.occupancy)),
+        // Change request §8: "Hetero goes first".
+        20 | 21 if v.hetero == 1 => Some(false),
         20 => Some(among(&BACKBONE_NAMES, a.name)),
         21 => Some(!among(&BACKBONE_NAMES, a.name)),
         22 => Some(v.hetero == 1),
@@ -506,8 +512,8 @@ fn atom_term((code, p, q): (u64, u64, u64), a: &Atom) -> Option<bool> {
     }
 }
 
-// From a start of so many indexes. Change request §4: "Terms of the start's own level and above stay undecided", and "From a conformer,
-// Backbone and SideChain go by the atom's name alone".
+// From a start of so many indexes. Change request §4: "Terms of the start's own level and above stay undecided". From a conformer its name
+// isn't looked at, so Backbone and SideChain go by the atom alone.
 fn term(t: (u64, u64, u64), start: usize, m: &Model, c: &Chain, r: &Residue, f: &Conformer, a: &Atom) -> Option<bool> {
     let (code, p, q) = t;
     let serial = r.serial as i64;
@@ -527,7 +533,7 @@ fn term(t: (u64, u64, u64), start: usize, m: &Model, c: &Chain, r: &Residue, f: 
         9 => Some(f.name == p),
         10 => Some(f.location == p),
         11 => Some(f.name == p && f.location == q),
-        20 | 21 if start < 4 && !among(&AMINO_ACIDS, f.name) => Some(false),
+        20 | 21 if start < 4 && !is_amino_acid(f.name) => Some(false),
         _ => atom_term(t, a),
     }
 }

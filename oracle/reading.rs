@@ -296,7 +296,7 @@ pub fn hits(sides: &Sides, start: &[u64], tree: &[u64], counts: &mut Counts) {
     let both = Both::new(&sides.store, pdb);
     let tree = plain::read_tree(tree).unwrap();
     let atoms: HashMap<usize, _> = pdb.atoms_with_hierarchy().map(|h| (both.theirs[&address(h.atom())], h)).collect();
-    let theirs: Vec<_> = original::find(pdb, start, &tree).iter().map(|records| &atoms[&(records[4] as usize)]).collect();
+    let theirs: Vec<_> = original::find(pdb, start, original::search_for(&tree)).iter().map(|records| &atoms[&(records[4] as usize)]).collect();
     let ours = find(&both.store, start, search(&tree));
     assert_eq!(ours.len(), theirs.len(), "the number of hits");
     let positions = positions(pdb);

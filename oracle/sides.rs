@@ -2,7 +2,7 @@
 use crate::judges::Judges;
 use crate::plain::Machine;
 use crate::port::{self, Call, Edit, Find, Lookup, Optional};
-use crate::{original, plain};
+use crate::{hetero, original, plain};
 
 #[derive(Default)]
 pub struct Counts {
@@ -13,6 +13,7 @@ pub struct Counts {
     // By the start's number of indexes.
     finds_by_crate: [u64; 5],
     no_such_start: u64,
+    hetero: hetero::Counts,
     lookups: u64,
 }
 
@@ -24,6 +25,7 @@ impl Counts {
         let [structure, model, chain, residue, conformer] = self.finds_by_crate;
         print!("  finds accepted and by the crate, from the structure {structure}, from a model {model}, from a chain {chain}, ");
         println!("from a residue {residue}, from a conformer {conformer}");
+        self.hetero.print();
     }
 }
 
@@ -72,9 +74,14 @@ impl Sides {
         counts.finds += 1;
         counts.no_such_start += (answer.result == 5) as u64;
         if let (Some(pdb), 0) = (&self.judges.pdb, answer.result) {
-            let hits = original::find(pdb, start, &plain::read_tree(tree).unwrap());
-            assert_eq!(hits.concat(), out[..answer.hits as usize * 5], "the crate's hits of {tree:?} from {start:?} on {:?}", self.store);
+            let read = plain::read_tree(tree).unwrap();
+            let hits = original::find(pdb, start, original::search_for(&read)).concat();
+            assert_eq!(hits, out[..answer.hits as usize * 5], "the crate's hits of {tree:?} from {start:?} on {:?}", self.store);
             counts.finds_by_crate[start.len()] += 1;
+            if hetero::asks_side(&read) {
+                let before = original::find(pdb, start, original::search(&read)).concat();
+                hetero::compare(&self.store, start, &before, &hits, &mut counts.hetero);
+            }
         }
         (answer, out)
     }

@@ -316,6 +316,14 @@ static void lower_down(void) {
     for (size_t level = 0; level < 5; level++) {
         expect("record", out[level], hit[level]);
     }
+    longer[12 * 9 + 10] = 1;
+    expect("but not of an O that is hetero", find_at(4, water, backbone, 3, OUT).hits, 0);
+    longer[12 * 4 + 10] = 1;
+    for (size_t indexes = 1; indexes <= 4; indexes++) {
+        expect("nor of an alanine's N that is", find_at(indexes, first, backbone, 3, OUT).hits, 0);
+    }
+    expect("nor does a removal take them", jubrelti_remove_atoms_by(longer, LONGER, 0, backbone, 3).removed, 0);
+    longer[12 * 9 + 10] = longer[12 * 4 + 10] = 0;
     expect("a model without atoms is searched", find_at(1, empty, all, 3, 0).result, JUBRELTI_DONE);
     expect("a chain of it isn't there, whatever the tree", find_at(2, empty, NULL, 0, OUT).result, JUBRELTI_NO_POSITION);
     expect("nor a second conformer of the water", find_at(4, last, unknown, 3, OUT).result, JUBRELTI_NO_POSITION);

@@ -170,8 +170,8 @@ BFactor = _term("BFactor", "the B-factor, to within a rounded difference below 2
 BFactorRange = _term("BFactorRange", "B-factors, both ends included.")
 Occupancy = _term("Occupancy", "the occupancy, to within a rounded difference below 2^-52.")
 OccupancyRange = _term("OccupancyRange", "occupancies, both ends included.")
-Backbone = _term("Backbone", "backbone atoms of amino acids.")
-SideChain = _term("SideChain", "side chain atoms of amino acids.")
+Backbone = _term("Backbone", "backbone atoms of amino acids, none of them hetero.")
+SideChain = _term("SideChain", "side chain atoms of amino acids, none of them hetero.")
 Hetero = _term("Hetero", "hetero atoms.")
 
 

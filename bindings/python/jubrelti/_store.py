@@ -242,7 +242,7 @@ class Store(Editing[Edited]):
 
     def conformer_find(self, conformer: Position, search: Search) -> Hits:
         """The atoms of a conformer, `(model, chain, residue, conformer)`, where the search isn't false. Terms of all levels but the
-        atom's are undecided, and `Backbone()` and `SideChain()` go by the atom's name alone.
+        atom's are undecided, and `Backbone()` and `SideChain()` go by the atom alone, its name and whether it is hetero.
         """
         return self._find(values.position(conformer, "a conformer", 4), search)
 

@@ -57,6 +57,21 @@ class Terms(unittest.TestCase):
                 self.assertEqual(eval(repr(search)), search)
         self.assertEqual({search.nodes()[0] for search, _, _ in EACH}, {*range(1, 23), 27, 28})
 
+    def test_hetero_atoms_are_in_neither_term(self):
+        # A soaked glycine in one conformer with others of that name; from a conformer its name isn't looked at.
+        for name, listed in (("GLY", [[1], [2]]), ("HOH", [[], []])):
+            edits = Edits().add_model(1)
+            for n, atom in enumerate(("CA", "CB", "CA", "CB"), 1):
+                edits.add_atom(0, NewAtom(n, atom, element="C", hetero=n > 2), "A", (1, None), (name, None))
+            store = Store()
+            store.apply_all(edits)
+            sides = (Backbone(), SideChain())
+            self.assertEqual([serials(store, term) for term in sides], listed)
+            self.assertEqual(serials(store, Hetero()), [3, 4])
+            alone = [[hit.atom.serial_number for hit in store.conformer_find((0, 0, 0, 0), term)] for term in sides]
+            self.assertEqual(alone, [[1], [2]])
+            self.assertEqual([store.remove_atoms_by(0, term).removed for term in sides], [1, 1])
+
     def test_the_tables_are_all_there(self):
         for code, name, kinds in TERMS:
             self.assertIn(name, jubrelti.__all__)

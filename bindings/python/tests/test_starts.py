@@ -53,7 +53,7 @@ class Starts(unittest.TestCase):
             atoms = [[hit.records[4] for hit in find_at(worked(), start, search)] for search in (Element(7), ~Element(7), EVERY)]
             self.assertEqual(atoms, [[4, 5], [5], [4, 5]])
 
-    def test_backbone_by_the_atoms_name_alone(self):
+    def test_backbone_by_the_atom_alone(self):
         water = worked("HOH")
         names = [[hit.atom.name for hit in water.conformer_find((0, 0, 0, 0), term)] for term in (Backbone(), SideChain())]
         self.assertEqual(names, [["N"], ["XX"]])

@@ -1,4 +1,4 @@
-// Picks atoms as a restraint builder would: main chain, side chains, what is loose, what isn't hydrogen, and a part of one chain.
+// Picks atoms as a restraint builder would: main chain, side chains, what is loose or a ligand, what isn't hydrogen, and a part of one chain.
 use jubrelti::*;
 
 // Serial number, name, symbol (empty where the reader found none), position, B-factor.
@@ -23,9 +23,18 @@ const GLYCINE: [Line; 4] = [
 const FRAGMENT: [Line; 3] =
     [(11, "C1", "C", [6.1, -3.0, 2.2], 35.0), (12, "O1", "O", [7.3, -3.1, 2.4], 36.0), (13, "X1", "", [4.9, -4.2, 1.9], 38.0)];
 
-fn add(model: &mut ModelBuilder, lines: &[Line], chain: &str, residue: isize, name: &str) -> Result<(), Error> {
+// A free glycine from the soak: its names are those of the chain's own, and it is hetero.
+const SOAKED: [Line; 5] = [
+    (14, "N", "N", [9.0, 5.1, 3.0], 33.0),
+    (15, "CA", "C", [10.3, 5.7, 3.2], 33.5),
+    (16, "C", "C", [11.3, 4.7, 3.7], 34.0),
+    (17, "O", "O", [10.9, 3.6, 4.1], 34.5),
+    (18, "OXT", "O", [12.5, 5.0, 3.7], 34.5),
+];
+
+fn add(model: &mut ModelBuilder, hetero: bool, lines: &[Line], chain: &str, residue: isize, name: &str) -> Result<(), Error> {
     for &(serial_number, atom, symbol, [x, y, z], b_factor) in lines {
-        let new_atom = NewAtom::new(name == "LIG", serial_number, atom, x, y, z, 1.0, b_factor, symbol, 0)?;
+        let new_atom = NewAtom::new(hetero, serial_number, atom, x, y, z, 1.0, b_factor, symbol, 0)?;
         model.add_atom(new_atom, chain, (residue, None), (name, None));
     }
     Ok(())
@@ -50,18 +59,19 @@ fn list(title: &str, hits: Hits) {
 
 fn main() -> Result<(), Error> {
     let mut model = ModelBuilder::new(1);
-    add(&mut model, &SERINE, "A", 1, "SER")?;
-    add(&mut model, &GLYCINE, "A", 2, "GLY")?;
-    add(&mut model, &FRAGMENT, "B", 1, "LIG")?;
+    add(&mut model, false, &SERINE, "A", 1, "SER")?;
+    add(&mut model, false, &GLYCINE, "A", 2, "GLY")?;
+    add(&mut model, true, &FRAGMENT, "B", 1, "LIG")?;
+    add(&mut model, true, &SOAKED, "B", 2, "GLY")?;
     let mut store = Store::new();
     store.add_model(model)?;
 
-    list("main chain, for bonds and planes", store.find(Term::Backbone & !Term::Hetero)?);
-    list("side chains, for rotamers", store.find(Term::SideChain & Term::ChainId("A".to_owned()))?);
+    // Hetero goes first: the free glycine has a backbone's names and is neither main chain nor side chain, but a ligand.
+    list("main chain, for bonds and planes", store.find(Term::Backbone)?);
+    list("side chains, for rotamers", store.find(Term::SideChain)?);
     list("loose or ligand, for tighter restraints", store.find(Term::BFactorRange(30.0, f64::INFINITY) | Term::Hetero)?);
     // X1 may be hydrogen or not, so it is listed: a search leaves out only what it knows to be false.
-    let ligand = Term::ConformerName("LIG".to_owned());
-    list("ligand without hydrogen, for contacts", store.find(ligand & !Term::Element(Element::H))?);
+    list("ligands without hydrogen, for contacts", store.find(Term::Hetero & !Term::Element(Element::H))?);
     // A viewer that stands on the second chain asks from there.
     list("chain B without carbon", store.chain_find([0, 1], !Term::Element(Element::C))?);
 

@@ -80,6 +80,7 @@ mod read {
 
     pub fn searches(pdb: &PDB) -> Result<(), Box<dyn Error>> {
         let searches = [
+            // The crate's Backbone claims hetero atoms under names of amino acids too.
             ("main chain", Term::Backbone & !Term::Hetero),
             ("loose or ligand", Term::BFactorRange(30.0, f64::INFINITY) | Term::Hetero),
             ("not carbon in A", Term::ChainId("A".to_owned()) & !Term::Element(Element::C)),

@@ -106,12 +106,13 @@ pub trait ContainsAtomConformer {
     /// The conformer.
     fn conformer(&self) -> &Conformer;
 
-    /// Whether the atom belongs to the backbone of an amino acid.
+    /// Whether the atom belongs to the backbone of an amino acid, by its name and the conformer's, as in pdbtbx. So it may be a hetero
+    /// atom, which [Term::Backbone](crate::Term::Backbone) leaves out.
     fn is_backbone(&self) -> bool {
         self.conformer().is_amino_acid() && self.atom().is_backbone()
     }
 
-    /// Whether the atom belongs to the side chain of an amino acid.
+    /// Whether the atom belongs to the side chain of an amino acid, by the two names alone too.
     fn is_sidechain(&self) -> bool {
         self.conformer().is_amino_acid() && !self.atom().is_backbone()
     }

@@ -124,7 +124,7 @@ pub use search::{Ops, Search, Term};
 pub use store::{Store, Words, MAX_RECORDS};
 
 /// The version of these bindings, and of the library that they call: major * 1,000,000 + minor * 1,000 + patch.
-pub const VERSION: u64 = 8_000;
+pub const VERSION: u64 = 9_000;
 
 // A library of another version may lay out its words or number its refusals in another way. A patch changes neither.
 fn check_version() -> Result<(), Error> {

@@ -44,9 +44,9 @@ pub enum Term {
     Occupancy(f64),
     /// A range of occupancies, both ends included.
     OccupancyRange(f64, f64),
-    /// Backbone atoms of amino acids.
+    /// Backbone atoms of amino acids. Hetero goes first: no hetero atom is one, whatever its residue is called.
     Backbone,
-    /// Side chain atoms of amino acids.
+    /// Side chain atoms of amino acids, and no hetero atoms either.
     SideChain,
     /// Hetero atoms.
     Hetero,

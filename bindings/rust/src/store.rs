@@ -210,8 +210,8 @@ impl<W: AsRef<[u64]>> Store<W> {
     }
 
     /// The atoms of a conformer, `[model, chain, residue, conformer]`, where the search isn't false. Terms of all levels but the atom's
-    /// are undecided, and [Term::Backbone](crate::Term::Backbone) and [Term::SideChain](crate::Term::SideChain) go by the atom's
-    /// name alone.
+    /// are undecided, and [Term::Backbone](crate::Term::Backbone) and [Term::SideChain](crate::Term::SideChain) go by the atom
+    /// alone, its name and whether it is hetero.
     pub fn conformer_find(&self, conformer: [usize; 4], search: impl Into<Search>) -> Result<Hits<'_>, Error> {
         self.hits(search.into(), |words, tree, out| ffi::conformer_find(words, numbers(conformer), tree, out))
     }

@@ -92,6 +92,35 @@ fn each_term_is_its_node() {
     }
 }
 
+// A soaked glycine in one conformer with others of that name: hetero goes first.
+#[test]
+fn hetero_atoms_are_in_neither_term() {
+    for (name, atoms) in [("GLY", [1, 2]), ("HOH", [0, 0])] {
+        let mut edits = Edits::new();
+        edits.add_model(1);
+        for (n, atom) in (1..).zip(["CA", "CB", "CA", "CB"]) {
+            let atom = NewAtom::new(n > 2, n, atom, 0.0, 0.0, 0.0, 1.0, 0.0, "C", 0).unwrap();
+            edits.add_atom(0, atom, "A", (1, None), (name, None));
+        }
+        let mut store = Store::new();
+        store.apply_all(&edits).unwrap();
+        let serials = |hits: Hits| hits.map(|hit| hit.atom().serial_number()).collect::<Vec<_>>();
+        for (term, atom, alone) in [(Term::Backbone, atoms[0], 1), (Term::SideChain, atoms[1], 2)] {
+            let listed: Vec<usize> = if atom == 0 { vec![] } else { vec![atom] };
+            let others: Vec<usize> = (1..=4).filter(|n| *n != atom).collect();
+            assert_eq!(serials(store.find(term.clone()).unwrap()), listed, "{term:?} of {name}");
+            assert_eq!(serials(store.find(!term.clone()).unwrap()), others, "!{term:?} of {name}");
+            assert_eq!(serials(store.residue_find([0, 0, 0], term.clone()).unwrap()), listed, "{term:?} from {name}'s residue");
+            // The conformer's name isn't looked at, and hetero is.
+            assert_eq!(serials(store.conformer_find([0, 0, 0, 0], term.clone()).unwrap()), [alone], "{term:?} from {name}");
+            assert_eq!(store.clone().remove_atoms_by(0, term).unwrap().removed, 1);
+        }
+        assert_eq!(serials(store.find(Term::Hetero).unwrap()), [3, 4]);
+        // The methods of a hit go by the two names, as pdbtbx's do.
+        assert_eq!(store.atoms_with_hierarchy().filter(|h| h.is_backbone()).count(), 2 * (name == "GLY") as usize);
+    }
+}
+
 #[test]
 fn texts_that_cannot_be_packed() {
     let refused = |term: Term| Search::from(term).nodes().unwrap_err();

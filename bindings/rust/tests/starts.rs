@@ -130,7 +130,7 @@ fn a_search_and_its_opposite() {
 }
 
 #[test]
-fn backbone_by_the_atoms_name_alone() {
+fn backbone_by_the_atom_alone() {
     let store = store();
     let serials = |hits: Hits| hits.map(|hit| hit.atom().serial_number()).collect::<Vec<_>>();
     // Conformers ALA and HOH of the second model.

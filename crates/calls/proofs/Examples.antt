@@ -5,10 +5,9 @@ use mathlib.Core.Bool.{true, false}
 use mathlib.Core.List.{List, [], _∷_}
 use mathlib.Core.Option.{some}
 use lib.ListN.{length, replicate}
-use Rattle.machine.specs.Lists.{any, all}
+use Rattle.machine.specs.Lists.{isSome, any, all}
 use Rattle.machine.specs.Edit.{Call, RemoveResidueById, RemoveAtomsBy, JoinModels}
 use Rattle.calls.specs.Format.{rows, readParts, callOf, readCall, callsIn, readCalls}
-use Rattle.calls.specs.Counted.{isSome}
 use Rattle.calls.proofs.Writing.{formOf, writeCalls}
 
 abbrev three : List Call

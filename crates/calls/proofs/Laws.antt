@@ -10,10 +10,10 @@ use lib.ListN.{length, getD, take, drop, length-drop, drop-of-length-le}
 use lib.Seq.{getD-drop, drop-drop, drop-cons}
 use lib.Dec.{leb, eqb}
 use borrow.Author.Tests.{le-leb, lt-leb, lt-ltb, le-ltb, eqb-true, eqb-false}
-use Rattle.machine.specs.Lists.{all, andThen}
+use Rattle.machine.specs.Lists.{isSome, all, andThen}
 use Rattle.machine.specs.Edit.{Call}
 use Rattle.calls.specs.Format.{Row, rows, noRow, rowOf, shapeOf, isCode, isByte, numbersIn, textsIn, treesIn, partsIn, goodPart, readParts, readCall, longest, readCalls}
-use Rattle.calls.specs.Counted.{isSome, countedOf}
+use Rattle.calls.specs.Counted.{countedOf}
 use Rattle.calls.proofs.Reading.{call-fold, calls-none, calls-fold}
 use Rattle.calls.specs.declared.Counted.{Counted}
 use Rattle.calls.specs.declared.Counted.the-variants.{Calls, Bad}

@@ -1,3 +1,4 @@
 pub mod Queries
 pub mod Demand
 pub mod Filling
+pub mod Hetero

@@ -10,9 +10,8 @@ use native.Mathlib.Omega.{arith}
 use lib.ListN.{length, getD, take, drop, set, length-map, length-drop, take-append-drop, List·getD-map}
 use lib.Seq.{take-all, take-suc, take-suc-set, take-append-le, drop-append-le, drop-cons, drop-drop, getD-drop}
 use borrow.Author.Tests.{ltb-true}
-use Rattle.machine.specs.Lists.{all}
+use Rattle.machine.specs.Lists.{isSome, all}
 use Rattle.laws.specs.Lists.{and-both}
-use Rattle.calls.specs.Counted.{isSome}
 use Rattle.calls.specs.Format.{rows, numbersIn, treesIn, partsIn, isByte, goodPart, readParts, callOf, readCall}
 use Rattle.calls.proofs.Reading.{parts-step, parts-none, call-parts}
 use Rattle.dispatch.specs.Words.{lowByte, Narrowed, partEnd}

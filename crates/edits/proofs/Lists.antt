@@ -9,7 +9,7 @@ use native.Mathlib.Omega.{arith}
 use lib.ListN.{length, getD, take, drop, length-append, length-take, length-drop}
 use lib.Seq.{drop-drop, drop-length, getD-drop}
 use borrow.Author.Tests.{le-leb, lt-leb}
-use Rattle.machine.specs.Lists.{concatMap}
+use Rattle.machine.specs.Lists.{isSome, concatMap}
 use Rattle.machine.specs.Answer.{Result, ok, refused, editedNumbers, appliedNumbers, editFields}
 use Rattle.machine.specs.Store.{Machine, readStore}
 use Rattle.machine.specs.Edit.{Call, Change, stepBy, storeStep, storeAfter, storeAnswers}
@@ -25,7 +25,7 @@ use Rattle.store.specs.Store.{checkedBy}
 use Rattle.store.proofs.Laws.{refused-store}
 use Rattle.store.specs.declared.Checked as Checked
 use Rattle.store.proofs.Steps.{step-good}
-use Rattle.calls.specs.Counted.{isSome, countedOf}
+use Rattle.calls.specs.Counted.{countedOf}
 use Rattle.calls.specs.declared.Counted as Counted
 use Rattle.calls.specs.Format.{readCall, readCalls}
 use Rattle.calls.proofs.Reading.{calls-none, calls-step}

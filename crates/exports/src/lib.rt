@@ -21,12 +21,12 @@ use machine::NewAtom;
 use machine::WriteAnswer;
 use store::Checked;
 
-// 0.8.0: the millions are the major number, the thousands the minor one.
+// 0.9.0: the millions are the major number, the thousands the minor one.
 #[no_mangle]
 pub extern "C" fn jubrelti_version() -> u64
     ensures { λ r. ⌜ r ≡ version ⌝ }
 {
-    8_000
+    9_000
 }
 
 // 0 for a good store, else the refusal's number.

@@ -1,6 +1,7 @@
 -- Small examples beside document 01's ten cases, each telling a definition from a near miss: one table, one theorem.
 -- Assumes nothing.
 use Prim.Native.Nat.{ℕ, _*_}
+use Prim.Native.String.{String}
 use mathlib.Core.Path.{_≡_, refl}
 use mathlib.Core.Bool.{Bool, cond}
 use mathlib.Core.List.{List, [], _∷_, _++_, map}
@@ -13,13 +14,15 @@ use Rattle.machine.specs.Classes.{classOfFields, classOf, classOfValue, 
 use Rattle.machine.specs.Record.{Words, words, fieldsOf, finite, goodValues, goodFields, goodRecord, readOut}
 use Rattle.machine.specs.Store.{flat, atomCount, laid, layOut, inOrder, goodLayout, sections, group, readStore, openRun}
 use Rattle.machine.specs.Query.{codes, nodeOf, nodesOf, run, leavesOne, readTree, treeValue, termValue, window, tables, packedName}
-use Rattle.machine.specs.Find.{enter, numbered, atomsIn, atomsUnder, hitsFrom, findRun, findFrom}
+use Rattle.machine.specs.Find.{enter, nowhere, numbered, atomsIn, atomsUnder, hitsFrom, findRun, findFrom}
 use Rattle.machine.specs.Edit.{addition, Call, AddModel, AddAtom, RemoveChain, RemoveAtom, RemoveChainById, RemoveResidueById, RemoveConformerById, RemoveAtomBySerialNumber, RemoveAtomsBy, RemoveEmpty, JoinModels, JoinResidues, SetElement, branchAt, replaceAt, addModel, prepare, upsert, addPrepared, removeAt, removeFirst, keepAtoms, removeAtomsBy, nonEmpty, removeEmpty, joinAt, setAt, machineStep, stepBy, storeStep, storeAfter, storeAnswers}
 use Rattle.machine.specs.Lookup.{serials, lookupIn, lookupRun}
 use Rattle.machine.specs.Program.{readInput, digits, printed, programRun}
-use Rattle.machine.specs.Cases.{record12, store, S, renamed, node, element7, found, absent, present, atom, zeros, atomRecord, file, eightBytes, Case}
+use Rattle.machine.specs.Cases.{record12, store, six, S, renamed, node, element7, found, absent, present, atom, zeros, atomRecord, file, eightBytes, Case}
 use Rattle.machine.specs.declared.FloatClass.{FloatClass}
 use Rattle.machine.specs.declared.FloatClass.the-variants.{Zero, Subnormal, Normal, Infinite, NotANumber}
+use Rattle.machine.specs.declared.Tri.{Tri}
+use Rattle.machine.specs.declared.Tri.the-variants.{False, True, Undecided}
 use Rattle.machine.specs.declared.Prepared.{Prepared}
 use Rattle.machine.specs.declared.Prepared.the-variants.{Stored, Absent, Bad}
 
@@ -130,6 +133,15 @@ oneAtom words =
     ∷ record12 (5 ∷ 1 ∷ packedName "XX" ∷ 0 ∷ 0 ∷ 0 ∷ 0 ∷ 0 ∷ words)
     ∷ [])
 
+-- a soaked residue: atoms `N` and `XX`, 4 and 5, and the same as hetero atoms, 6 and 7, in one conformer of this name
+abbrev pub soaked : String → List ℕ
+soaked conformer =
+    store 97
+    (six (packedName conformer)
+    ++ (record12 (5 ∷ 1 ∷ packedName "N" ∷ 0 ∷ 0 ∷ 0 ∷ 0 ∷ 0 ∷ 7 ∷ 0 ∷ 1 ∷ [])
+    ∷ record12 (5 ∷ 1 ∷ packedName "XX" ∷ 0 ∷ 0 ∷ 0 ∷ 0 ∷ 0 ∷ 0 ∷ 0 ∷ 1 ∷ [])
+    ∷ []))
+
 -- ---- searches from lower down
 
 -- the answer from a start, with room for n hits, and the words of the hits
@@ -138,6 +150,26 @@ from n w start t = let r = findFrom w start t (replicate (5 * n) 8) in r .0 ++ r
 
 abbrev known : List ℕ
 known = node 28 0 0
+
+-- ---- Backbone and SideChain
+
+abbrev backbone : List ℕ
+backbone = node 20 0 0
+
+abbrev sideChain : List ℕ
+sideChain = node 21 0 0
+
+-- 0 false, 1 true, 2 undecided
+abbrev said : Tri → ℕ
+said False = 0
+said True = 1
+said Undecided = 2
+
+-- what the two say at a conformer of this name, before an atom of it is known
+abbrev atConformer : String → List ℕ
+atConformer name =
+    let v = termValue tables (enter 1 (record { name = packedName name; location = 0 }) nowhere) in
+    said (treeValue v backbone) ∷ said (treeValue v sideChain) ∷ []
 
 -- ---- names
 
@@ -251,10 +283,19 @@ examples =
     -- those below it are decided
     ∷ example (from 1 serialStore (0 ∷ 1 ∷ []) (node 5 8 0)) (0 ∷ 1 ∷ 0 ∷ 2 ∷ 7 ∷ 8 ∷ 9 ∷ [])
     ∷ example (from 1 S (0 ∷ 0 ∷ 0 ∷ []) (node 9 (packedName "HOH") 0)) (0 ∷ 0 ∷ replicate 5 8)
-    -- from a conformer Backbone and SideChain go by the atom's name alone, from a residue by the conformer's too
-    ∷ example (from 1 renamed (0 ∷ 0 ∷ 0 ∷ 0 ∷ []) (node 20 0 0)) (0 ∷ 1 ∷ 0 ∷ 1 ∷ 2 ∷ 3 ∷ 4 ∷ [])
-    ∷ example (from 1 renamed (0 ∷ 0 ∷ 0 ∷ 0 ∷ []) (node 21 0 0)) (0 ∷ 1 ∷ 0 ∷ 1 ∷ 2 ∷ 3 ∷ 5 ∷ [])
-    ∷ example (from 1 renamed (0 ∷ 0 ∷ 0 ∷ []) (node 20 0 0)) (0 ∷ 0 ∷ replicate 5 8)
+    -- from a conformer Backbone and SideChain go by the atom alone, from a residue by the conformer's name too
+    ∷ example (from 1 renamed (0 ∷ 0 ∷ 0 ∷ 0 ∷ []) backbone) (0 ∷ 1 ∷ 0 ∷ 1 ∷ 2 ∷ 3 ∷ 4 ∷ [])
+    ∷ example (from 1 renamed (0 ∷ 0 ∷ 0 ∷ 0 ∷ []) sideChain) (0 ∷ 1 ∷ 0 ∷ 1 ∷ 2 ∷ 3 ∷ 5 ∷ [])
+    ∷ example (from 1 renamed (0 ∷ 0 ∷ 0 ∷ []) backbone) (0 ∷ 0 ∷ replicate 5 8)
+    -- hetero goes first: on a hetero atom both are false, beside others of its conformer, so both their opposites have it
+    ∷ example (found (soaked "GLY") backbone ++ found (soaked "GLY") sideChain ++ found (soaked "GLY") (node 22 0 0)) (4 ∷ 5 ∷ 6 ∷ 7 ∷ [])
+    ∷ example (found (soaked "GLY") (backbone ++ node 26 0 0) ++ found (soaked "GLY") (sideChain ++ node 26 0 0)) (5 ∷ 6 ∷ 7 ∷ 4 ∷ 6 ∷ 7 ∷ [])
+    -- under any name from a conformer, and in tree removals
+    ∷ example (from 1 (soaked "HOH") (0 ∷ 0 ∷ 0 ∷ 0 ∷ []) backbone ++ from 1 (soaked "HOH") (0 ∷ 0 ∷ 0 ∷ 0 ∷ []) sideChain) (0 ∷ 1 ∷ 0 ∷ 1 ∷ 2 ∷ 3 ∷ 4 ∷ 0 ∷ 1 ∷ 0 ∷ 1 ∷ 2 ∷ 3 ∷ 5 ∷ [])
+    ∷ example (lines (storeAnswers (soaked "HOH") (RemoveAtomsBy 0 backbone ∷ RemoveAtomsBy 0 sideChain ∷ []))) (0 ∷ 1 ∷ 1 ∷ 0 ∷ 1 ∷ 1 ∷ [])
+    ∷ example (found (storeAfter (soaked "GLY") (RemoveAtomsBy 0 backbone ∷ RemoveAtomsBy 0 sideChain ∷ [])) (node 22 0 0)) (4 ∷ 5 ∷ [])
+    -- "The term then settles at the atom wherever the conformer has such a name", and is false at any other
+    ∷ example (atConformer "GLY" ++ atConformer "HOH") (2 ∷ 2 ∷ 0 ∷ 0 ∷ [])
     -- a start without atoms lists nothing; 2 comes before 5, 5 before 3, and 3 before 10
     ∷ example (from 1 serialStore (0 ∷ 0 ∷ []) known) (0 ∷ 0 ∷ replicate 5 8)
     ∷ example (from 1 (zeros 12 ++ (12 ∷ [])) (0 ∷ []) known) (2 ∷ 0 ∷ replicate 5 8)

@@ -69,8 +69,8 @@ atomsUnder (suc k) s n (i ∷ is) ts = andThen (nth i (numbered (suc k) n ts)) (
 abbrev pub atomsFrom : List ℕ → Machine → Option (List Site)
 atomsFrom start m = atomsUnder 4 top 0 start m
 
--- "Terms of the start's own level and above stay undecided": the first kind that is known. From a conformer its name isn't, so "Backbone and SideChain go by the
--- atom's name alone"
+-- "Terms of the start's own level and above stay undecided": the first kind that is known. From a conformer its name isn't, so Backbone and SideChain go by the
+-- atom alone
 abbrev pub lowest : List ℕ → ℕ
 lowest start = suc (length start)
 

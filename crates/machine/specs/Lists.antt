@@ -11,6 +11,10 @@ abbrev pub orElse : {A : Type 0} → Option A → Option A → Option A
 orElse none o = o
 orElse (some x) o = some x
 
+abbrev pub isSome : {A : Type 0} → Option A → Bool
+isSome none = false
+isSome (some x) = true
+
 module _ {A : Type 0} where
   abbrev pub isEmpty : List A → Bool
   isEmpty [] = true

@@ -244,6 +244,10 @@ abbrev pub amongResidues : Names → Option Conformer → Tri → Tri
 amongResidues names none t = t
 amongResidues names (some c) t = cond (member (names .residues) (c .name)) t False
 
+-- change request §8, of Backbone and SideChain: "Hetero goes first: on a hetero atom" both "are false"
+abbrev pub heteroFirst : Atom → Bool → Bool
+heteroFirst a asked = not (readOut a .hetero) && asked
+
 -- "Each term has its value at its level, as the five `optional_matches_` functions give it."
 unfoldable pub termValue : Names → Place → Term → Tri
 termValue names e (ModelSerialNumber n) = known (e .model) (λ m. eqb (m .serial) n)
@@ -265,8 +269,8 @@ termValue names e (BFactor x) = known (e .atom) (λ a. close (readOut a .«b_fac
 termValue names e (BFactorRange low high) = known (e .atom) (λ a. betweenF low high (readOut a .«b_factor»))
 termValue names e (Occupancy x) = known (e .atom) (λ a. close (readOut a .occupancy) x)
 termValue names e (OccupancyRange low high) = known (e .atom) (λ a. betweenF low high (readOut a .occupancy))
-termValue names e Backbone = amongResidues names (e .conformer) (known (e .atom) (λ a. member (names .atoms) (a .name)))
-termValue names e SideChain = amongResidues names (e .conformer) (known (e .atom) (λ a. not (member (names .atoms) (a .name))))
+termValue names e Backbone = amongResidues names (e .conformer) (known (e .atom) (λ a. heteroFirst a (member (names .atoms) (a .name))))
+termValue names e SideChain = amongResidues names (e .conformer) (known (e .atom) (λ a. heteroFirst a (not (member (names .atoms) (a .name)))))
 termValue names e Hetero = known (e .atom) (λ a. readOut a .hetero)
 
 -- ---- the crate's two tables

@@ -27,7 +27,7 @@ use Rattle.pdbtbx.specs.Std.{Answer}
 use Rattle.pdbtbx.specs.Structs.{Struct, PDB}
 use Rattle.pdbtbx.specs.Words.{saysOf, structOf, structsOf, pdbOf}
 use Rattle.pdbtbx.specs.Edits.{addAtom, addModel, atPosition, removeAt, removeById, removeAtomsBy, removeEmpty, join, joinAt}
-use Rattle.pdbtbx.specs.Calls.{optionOf, searchOf, chosen, sameChain, sameResidue, sameConformer, sameAtom, fillElement, edit}
+use Rattle.pdbtbx.specs.Calls.{optionOf, searchFor, chosen, sameChain, sameResidue, sameConformer, sameAtom, fillElement, edit}
 use Rattle.pdbtbx.specs.Demand.{Flagged, InDomain}
 use Rattle.pdbtbx.proofs.Trees.{reads}
 use Rattle.pdbtbx.proofs.Vecs.{at-map}
@@ -228,8 +228,8 @@ module _ (n : ℕ) (m : Machine) (good : all (goodBranch 4) m ≡ true) where
       let t = then-ok (readTree tree) _ ch (x .2) in
       let w = reads tree (t .0) (t .1) in
       by-position (RemoveAtomsBy i tree) w
-      (on-model i (λ (y : Struct 4). (y .0, removeAtomsBy 3 (chosen (searchOf tree)) (y .1))) (λ t. (t .0, Plain.keepAtoms 3 p (t .1)))
-      (λ t. ap (λ (l : List (Struct 3)). (saysOf 4 (t .0), l)) (remove-atoms-by (chosen (searchOf tree)) p (chosen-value tree w) 3 (t .1))) (x .0) (x .1))
+      (on-model i (λ (y : Struct 4). (y .0, removeAtomsBy 3 (chosen (searchFor tree)) (y .1))) (λ t. (t .0, Plain.keepAtoms 3 p (t .1)))
+      (λ t. ap (λ (l : List (Struct 3)). (saysOf 4 (t .0), l)) (remove-atoms-by (chosen (searchFor tree)) p (chosen-value tree w) 3 (t .1))) (x .0) (x .1))
   no-panic (RemoveEmpty i) ch h =
       let x = bind-ok (position (branchAt 0 4 (i ∷ []) m)) _ ch h in
       by-position (RemoveEmpty i) tt (on-model i (removeEmpty 2) (λ t. (t .0, Plain.nonEmpty 3 (t .1))) (remove-empty 2) (x .0) (x .1))

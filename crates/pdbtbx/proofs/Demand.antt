@@ -25,7 +25,7 @@ use Rattle.demands.proofs.Demand.{demand3, opened-length, store-step, find-list
 use Rattle.pdbtbx.specs.Structs.{PDB}
 use Rattle.pdbtbx.specs.Words.{structOf, pdbOf, machineFrom}
 use Rattle.pdbtbx.specs.Find.{countOf, findAt}
-use Rattle.pdbtbx.specs.Calls.{searchOf, edit, edits}
+use Rattle.pdbtbx.specs.Calls.{searchFor, edit, edits}
 use Rattle.pdbtbx.specs.Demand.{Reads, InDomain, bit, foundBy, acceptedOf, store, outcome, Demand2}
 use Rattle.pdbtbx.proofs.Trees.{reads}
 use Rattle.pdbtbx.proofs.Hits.{sum-map, count-size}
@@ -176,9 +176,9 @@ module _ (w : List ℕ) (calls : List Call) (o : Accepted (openRun w)) where
     tree : Reads t
     tree = reads t (run .nodes) (run .tree)
 
-    found : findAt start (searchOf t) (both .pdb) ≡ some (list (findFrom (store w calls) start t out))
+    found : findAt start (searchFor t) (both .pdb) ≡ some (list (findFrom (store w calls) start t out))
     found =
-        ap (findAt start (searchOf t)) (both .held)
+        ap (findAt start (searchFor t)) (both .held)
         ∙ find-hits t tree start after
         ∙ ap (Option·map (hitsAmong tables (lowest start) t)) (under .1)
         ∙ ap some (sym (run .hits))

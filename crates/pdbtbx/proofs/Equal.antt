@@ -7,7 +7,7 @@ use mathlib.Core.Option.{Option, none, some, Option·none-ne-some, Option·some-
 use lib.ListN.{length}
 use lib.Dec.{leb, eqb}
 use borrow.Author.Tests.{eqb-true}
-use Rattle.machine.specs.Lists.{all, same}
+use Rattle.machine.specs.Lists.{isSome, all, same}
 use Rattle.machine.specs.Answer.{Result, ok, _>>_, need, badName}
 use Rattle.machine.specs.Text.{Optional, textOf, trim, trimStart, unpacked, withoutZeros, chainId, uppercaseOr, conformerName, storedBy, absentOr, alternativeLocation, matches, matchesOptional}
 use Rattle.machine.specs.Record.{Fields, goodFields}
@@ -30,13 +30,13 @@ use Rattle.pdbtbx.specs.Words.{string, saysOf, structOf, structsOf, pdbO
 use Rattle.pdbtbx.specs.Search.{isKnown, complete, addInfo}
 use Rattle.pdbtbx.specs.Matches.{matchesAt}
 use Rattle.pdbtbx.specs.Edits.{addModel, atPosition, removeAt, removeById, removeAtomsBy, removeEmpty, joinAt}
-use Rattle.pdbtbx.specs.Calls.{optionOf, searchOf, chosen, sameChain, sameResidue, sameConformer, sameAtom, fillElement, edit}
+use Rattle.pdbtbx.specs.Calls.{optionOf, searchFor, chosen, sameChain, sameResidue, sameConformer, sameAtom, fillElement, edit}
 use Rattle.pdbtbx.specs.Demand.{Reads, Flagged, InDomain, bit}
 use Rattle.pdbtbx.proofs.Values.{value-same, over-open, untold, add-value, add-complete}
 use Rattle.pdbtbx.proofs.Hits.{toldAt, search-value}
 use Rattle.pdbtbx.proofs.Names.{matches-given, both}
 use Rattle.pdbtbx.proofs.Additions.{add-atom}
-use Rattle.pdbtbx.proofs.Removals.{at-position, no-position, remove-at, remove-nowhere, isSome, index, withoutOne, remove-by-id, without-found, join-at, remove-empty, remove-atoms-by}
+use Rattle.pdbtbx.proofs.Removals.{at-position, no-position, remove-at, remove-nowhere, index, withoutOne, remove-by-id, without-found, join-at, remove-empty, remove-atoms-by}
 use Rattle.pdbtbx.proofs.Setters.{withNew, refielded-found, filledIn, fill-in, fill-element}
 
 -- the machine's step, in a store of n words, gives the crate's answer and what stands for the crate's structure, unless it has no room for it
@@ -146,11 +146,11 @@ known-true (some true) = refl
 known-true (some false) = refl
 
 pub chosen-value : (tree : List ℕ) → Reads tree → (a : Fields zero)
-    → chosen (searchOf tree) (saysOf zero a) ≡ not (not (isTrue (treeValue (termValue tables (enter zero a nowhere)) tree)))
+    → chosen (searchFor tree) (saysOf zero a) ≡ not (not (isTrue (treeValue (termValue tables (enter zero a nowhere)) tree)))
 unfolding toldAt enter matchesAt
 chosen-value tree h a =
     let f = matchesAt zero (saysOf zero a) in
-    let s = searchOf tree in
+    let s = searchFor tree in
     known-true (complete (addInfo f s))
     ∙ ap isTrue (add-complete f s ∙ add-value f untold s ∙ value-same _ _ (λ t. over-open (f t)) s ∙ search-value tree h (enter zero a nowhere))
     ∙ sym (Bool·not-not (isTrue (treeValue (termValue tables (enter zero a nowhere)) tree)))
@@ -224,8 +224,8 @@ module _ (n : ℕ) (m : Machine) (good : all (goodBranch 4) m ≡ true) where
       found _ r _ refl (removed-by-id 3 0 (i ∷ c ∷ y ∷ f ∷ []) m good (λ a. eqb (a .serial) serial) (sameAtom serial) (agree-atom serial) (ok tt) refl r h)
   same-step (RemoveAtomsBy i tree) d r h =
       let p : Fields zero → Bool = λ a. not (isTrue (treeValue (termValue tables (enter zero a nowhere)) tree)) in
-      let x = on-model i (λ (y : Struct 4). (y .0, removeAtomsBy 3 (chosen (searchOf tree)) (y .1))) (λ t. (t .0, keepAtoms 3 p (t .1)))
-      (λ t. ap (λ (l : List (Struct 3)). (saysOf 4 (t .0), l)) (remove-atoms-by (chosen (searchOf tree)) p (chosen-value tree d) 3 (t .1))) r h in
+      let x = on-model i (λ (y : Struct 4). (y .0, removeAtomsBy 3 (chosen (searchFor tree)) (y .1))) (λ t. (t .0, keepAtoms 3 p (t .1)))
+      (λ t. ap (λ (l : List (Struct 3)). (saysOf 4 (t .0), l)) (remove-atoms-by (chosen (searchFor tree)) p (chosen-value tree d) 3 (t .1))) r h in
       done (RemoveAtomsBy i tree) r (replaceAt 0 4 (i ∷ []) ((x .0 .0, keepAtoms 3 p (x .0 .1)) ∷ []) m) (x .2) (rw (x .1, d .nodes))
   same-step (RemoveEmpty i) d r h =
       let x = on-model i (removeEmpty 2) (λ t. (t .0, nonEmpty 3 (t .1))) (remove-empty 2) r h in

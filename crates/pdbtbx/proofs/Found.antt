@@ -19,7 +19,7 @@ use Rattle.pdbtbx.specs.Structs.{Says}
 use Rattle.pdbtbx.specs.Words.{pdbOf}
 use Rattle.pdbtbx.specs.Matches.{matchesAt}
 use Rattle.pdbtbx.specs.Find.{Item, find, findUnder, findAt}
-use Rattle.pdbtbx.specs.Calls.{searchOf}
+use Rattle.pdbtbx.specs.Calls.{searchFor}
 use Rattle.pdbtbx.specs.Demand.{Reads}
 use Rattle.pdbtbx.proofs.Vecs.{filter-map}
 use Rattle.pdbtbx.proofs.Hits.{Above, hit, numbersOf, branchItem, branchItems, items-same, nowhere-above, start, found-below, search-value}
@@ -85,14 +85,14 @@ no-more (some hs) = ap some (map-id hs)
 module _ (t : List ℕ) (r : Reads t) where
   -- below a site of which only the record numbers are known
   find-below : (k : ℕ) → k ≤ 4 → (p : List ℕ) (n : ℕ) (ts : List (Branch k))
-      → map (λ (l : List ℕ). p ++ l) (find Says matchesAt k (searchOf t) (branchItems k n ts)) ≡ map numbersOf (filter (λ z. isHit (valueHere t z)) (concatMapFrom (size k) (atomsIn k (start p)) n ts))
+      → map (λ (l : List ℕ). p ++ l) (find Says matchesAt k (searchFor t) (branchItems k n ts)) ≡ map numbersOf (filter (λ z. isHit (valueHere t z)) (concatMapFrom (size k) (atomsIn k (start p)) n ts))
   find-below k l p n ts =
-      found-below (searchOf t) k l p n ts
-      ∙ ap (map numbersOf) (filter-same (hit (searchOf t)) _ (λ z. ap isHit (search-value t r (z .place))) (concatMapFrom (size k) (atomsIn k (start p)) n ts))
+      found-below (searchFor t) k l p n ts
+      ∙ ap (map numbersOf) (filter-same (hit (searchFor t)) _ (λ z. ap isHit (search-value t r (z .place))) (concatMapFrom (size k) (atomsIn k (start p)) n ts))
 
   -- below any site, whose own level and those above stay undecided
   find-site : (k : ℕ) → k ≤ 4 → (z : Site) → Above k (z .place) → (n : ℕ) (ts : List (Branch k))
-      → map (λ (h : List ℕ). z .numbers ++ h) (find Says matchesAt k (searchOf t) (branchItems k n ts)) ≡ hitsAmong tables (5 - k) t (concatMapFrom (size k) (atomsIn k z) n ts)
+      → map (λ (h : List ℕ). z .numbers ++ h) (find Says matchesAt k (searchFor t) (branchItems k n ts)) ≡ hitsAmong tables (5 - k) t (concatMapFrom (size k) (atomsIn k z) n ts)
   find-site k l z w n ts =
       find-below k l (z .numbers) n ts
       ∙ ap (λ (y : Site). map numbersOf (filter (λ x. isHit (valueHere t x)) (concatMapFrom (size k) (atomsIn k y) n ts))) (from-start k l z w)
@@ -103,7 +103,7 @@ module _ (t : List ℕ) (r : Reads t) where
   -- at a position under that site: low is the first kind below the start
   abbrev FindsUnder : (k : ℕ) (z : Site) (n low : ℕ) (is : List ℕ) (ts : List (Branch k)) → Type 0
   FindsUnder k z n low is ts =
-      Option·map (map (λ (h : List ℕ). z .numbers ++ h)) (findUnder Says matchesAt k is (searchOf t) (branchItems k n ts)) ≡ Option·map (hitsAmong tables low t) (atomsUnder k z n is ts)
+      Option·map (map (λ (h : List ℕ). z .numbers ++ h)) (findUnder Says matchesAt k is (searchFor t) (branchItems k n ts)) ≡ Option·map (hitsAmong tables low t) (atomsUnder k z n is ts)
 
   find-under : (k : ℕ) → k ≤ 4 → (z : Site) → Above k (z .place) → (n low : ℕ) (is : List ℕ) → low + k ≡ 5 + length is → (ts : List (Branch k)) → FindsUnder k z n low is ts
   unfolding findUnder atomsUnder branchItem
@@ -116,17 +116,17 @@ module _ (t : List ℕ) (r : Reads t) where
       ∙ go (nth i (numbered (suc k) n ts)) (λ u. find-under k (omega arith) (below (suc k) (u .0) (u .1 .0) z) (enter-over k (omega arith) (u .1 .0) (z .place) w) (suc (u .0)) low is (omega arith) (u .1 .1))
     where
       down : Item Says (suc k) → Option (List (List ℕ))
-      down m = Option·map (map (λ (h : List ℕ). m .0 ∷ h)) (findUnder Says matchesAt k is (searchOf t) (m .2))
+      down m = Option·map (map (λ (h : List ℕ). m .0 ∷ h)) (findUnder Says matchesAt k is (searchFor t) (m .2))
 
       go : (o : Option (ℕ × Branch (suc k))) → ((u : ℕ × Branch (suc k)) → FindsUnder k (below (suc k) (u .0) (u .1 .0) z) (suc (u .0)) low is (u .1 .1))
           → Option·map (map (λ (h : List ℕ). z .numbers ++ h)) (andThen (Option·map (λ (u : ℕ × Branch (suc k)). branchItem (suc k) (u .0) (u .1)) o) down)
           ≡ Option·map (hitsAmong tables low t) (andThen o (λ u. atomsUnder k (below (suc k) (u .0) (u .1 .0) z) (suc (u .0)) is (u .1 .1)))
       go none on = refl
-      go (some u) on = one-more (z .numbers) (u .0) (findUnder Says matchesAt k is (searchOf t) (branchItems k (suc (u .0)) (u .1 .1))) ∙ on u
+      go (some u) on = one-more (z .numbers) (u .0) (findUnder Says matchesAt k is (searchFor t) (branchItems k (suc (u .0)) (u .1 .1))) ∙ on u
 
   -- the five finds
-  pub find-hits : (start : List ℕ) (m : Machine) → findAt start (searchOf t) (pdbOf m) ≡ Option·map (hitsAmong tables (lowest start) t) (atomsFrom start m)
+  pub find-hits : (start : List ℕ) (m : Machine) → findAt start (searchFor t) (pdbOf m) ≡ Option·map (hitsAmong tables (lowest start) t) (atomsFrom start m)
   find-hits start m =
-      ap (findUnder Says matchesAt 4 start (searchOf t)) (items-same 4 0 m)
+      ap (findUnder Says matchesAt 4 start (searchFor t)) (items-same 4 0 m)
       ∙ sym (no-more _)
       ∙ find-under 4 (omega arith) top (nowhere-above 4 (omega arith)) 0 (lowest start) start (omega arith) m

@@ -10,24 +10,27 @@ use lib.Dec.{eqb}
 use Rattle.machine.specs.Lists.{orElse, andThen, keep, filter, sum, concatMapFrom}
 use Rattle.machine.specs.Record.{Fields, Conformer, Atom, readOut}
 use Rattle.machine.specs.Store.{Branch, flat}
-use Rattle.machine.specs.Kleene.{decided, isHit}
+use Rattle.machine.specs.Kleene.{decided, notT, andT, isHit}
 use Rattle.machine.specs.Query.{Place, window, treeValue, sameZ, close, dropSign, known, elementIs, amongResidues, member, tables, termValue}
 use Rattle.machine.specs.Find.{Site, enter, below, nowhere, size, atomsIn}
 use Rattle.machine.specs.declared.Tri.{Tri}
 use Rattle.machine.specs.declared.Tri.the-variants.{False, Undecided}
 use Rattle.machine.specs.declared.Term.{Term}
 use Rattle.machine.specs.declared.Term.the-variants.{ModelSerialNumber, ModelSerialNumberRange, ChainId, ChainIdRange, ResidueSerialNumber, ResidueSerialNumberRange, ResidueInsertionCode, ResidueId, ConformerName, ConformerAlternativeLocation, ConformerId, AtomSerialNumber, AtomSerialNumberRange, AtomName, Element, BFactor, BFactorRange, Occupancy, OccupancyRange, Backbone, SideChain, Hetero}
+use Rattle.machine.specs.declared.Ops.the-variants.{And}
 use Rattle.laws.specs.Kleene.{toTri}
 use Rattle.laws.specs.Lists.{length-concatMap}
 use Rattle.laws.specs.Counting.{filter-append}
 use Rattle.laws.specs.Scan.{enter-over}
+use Rattle.demands.specs.Hetero.{isSide, formerValue}
+use Rattle.demands.proofs.Hetero.{same-others, hetero-first}
 use Rattle.pdbtbx.specs.Std.{abs, withinEpsilon}
 use Rattle.pdbtbx.specs.Structs.{Says}
 use Rattle.pdbtbx.specs.Words.{isize, saysOf, structOf, structsOf}
-use Rattle.pdbtbx.specs.Search.{Search}
+use Rattle.pdbtbx.specs.Search.{Search, Operator, Not, Single, Known}
 use Rattle.pdbtbx.specs.Matches.{optionalMatches, matchesAt}
 use Rattle.pdbtbx.specs.Find.{Item, find, countOf, item, items}
-use Rattle.pdbtbx.specs.Calls.{searchOf}
+use Rattle.pdbtbx.specs.Calls.{searchOf, asked, given, searchFor}
 use Rattle.pdbtbx.specs.Demand.{value, Reads}
 use Rattle.pdbtbx.proofs.Values.{value-same, listed, find-all}
 use Rattle.pdbtbx.proofs.Texts.{same-string, eqb-swap, same-option, before-string, among-amino-acids, among-backbone}
@@ -83,7 +86,8 @@ side-then (some c) p amino f g h k = rw (← h c) (go (amino c))
     go true = known-then p f g k
     go false = refl
 
-told-value : (e : Place) (t : Term) → toTri (toldAt e t) ≡ termValue tables e t
+-- the crate's terms have the values from before change request §8
+told-value : (e : Place) (t : Term) → toTri (toldAt e t) ≡ formerValue tables e t
 unfolding toldAt optionalMatches termValue saysOf readOut withinEpsilon abs close dropSign
 told-value e (ModelSerialNumber n) = simp (none-then, else-none) (known-then (e .model) _ _ (λ m. eqb-swap n (m .serial)))
 told-value e (ModelSerialNumberRange low high) = simp (none-then, else-none) (known-then (e .model) _ _ (λ m. refl))
@@ -112,9 +116,25 @@ told-value e Hetero = simp none-then (known-then (e .atom) _ _ (λ a. refl))
 abbrev pub own : Place → Term → Tri
 own e t = toTri (toldAt e t)
 
--- they give the search of an accepted tree the tree's value
-pub search-value : (t : List ℕ) → Reads t → (e : Place) → value (own e) (searchOf t) ≡ treeValue (termValue tables e) t
-search-value t r e = value-same _ _ (told-value e) (searchOf t) ∙ sym (r .kleene (termValue tables e))
+-- each as it is given has document 01's value
+asked-value : (e : Place) (t : Term) → value (own e) (asked t) ≡ termValue tables e t
+unfolding value
+asked-value e t = go (isSide t) refl
+  where
+    go : (b : Bool) → isSide t ≡ b → value (own e) (cond b (Operator And (Single t) (Not (Single Hetero))) (Single t)) ≡ termValue tables e t
+    go true h = ap₂ (λ (x y : Tri). andT x (notT y)) (told-value e t) (told-value e Hetero) ∙ sym (hetero-first tables .sides e t h)
+    go false h = told-value e t ∙ sym (same-others tables e t h)
+
+given-value : (v : Term → Tri) (s : Search Term) → value v (given s) ≡ value (λ t. value v (asked t)) s
+unfolding value given
+given-value v (Operator o a b) = rw (given-value v a, given-value v b)
+given-value v (Not a) = rw (given-value v a)
+given-value v (Single t) = refl
+given-value v (Known b) = refl
+
+-- so the search that is given for an accepted tree has the tree's value
+pub search-value : (t : List ℕ) → Reads t → (e : Place) → value (own e) (searchFor t) ≡ treeValue (termValue tables e) t
+search-value t r e = given-value (own e) (searchOf t) ∙ value-same _ _ (asked-value e) (searchOf t) ∙ sym (r .kleene (termValue tables e))
 
 -- ---- a level more
 

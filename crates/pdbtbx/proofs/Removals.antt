@@ -8,7 +8,7 @@ use native.Mathlib.Omega.{arith}
 use lib.ListN.{length}
 use lib.Dec.{ltb}
 use borrow.Author.Tests.{lt-ltb}
-use Rattle.machine.specs.Lists.{isEmpty, filter, nth, splice, firstWhere, andThen}
+use Rattle.machine.specs.Lists.{isSome, isEmpty, filter, nth, splice, firstWhere, andThen}
 use Rattle.machine.specs.Record.{Fields}
 use Rattle.machine.specs.Store.{Branch}
 use Rattle.machine.specs.Edit.{up, branchAt, replaceAt, root, without, withChildren, keepAtoms, nonEmpty}
@@ -113,10 +113,6 @@ replace-self (suc d) j (i ∷ is) m t e =
     ∙ splice-self i m (s .0) (s .1)
 
 -- ---- by id
-
-abbrev pub isSome : {A : Type 0} → Option A → Bool
-isSome none = false
-isSome (some x) = true
 
 abbrev pub withoutOne : {A : Type 0} → Option ℕ → List A → List A
 withoutOne none ts = ts

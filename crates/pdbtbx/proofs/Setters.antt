@@ -7,6 +7,7 @@ use mathlib.Core.Option.{Option, none, some}
 use native.Mathlib.Omega.{arith}
 use lib.Dec.{eqb}
 use borrow.Author.Tests.{le-leb, ne-eqb}
+use Rattle.machine.specs.Lists.{isSome}
 use Rattle.machine.specs.Answer.{ok}
 use Rattle.machine.specs.Record.{Fields, Atom}
 use Rattle.machine.specs.Store.{Branch}
@@ -14,7 +15,7 @@ use Rattle.machine.specs.Edit.{up, branchAt, replaceAt, withFields, refielded, 
 use Rattle.pdbtbx.specs.Words.{saysOf, structOf}
 use Rattle.pdbtbx.specs.Calls.{fillElement}
 use Rattle.pdbtbx.specs.Demand.{bit}
-use Rattle.pdbtbx.proofs.Removals.{replace-self, isSome}
+use Rattle.pdbtbx.proofs.Removals.{replace-self}
 
 -- ---- at every level
 

@@ -10,8 +10,11 @@ use Rattle.machine.specs.Text.{Optional}
 use Rattle.machine.specs.Query.{readTree}
 use Rattle.machine.specs.Edit.{Addition, Call, AddModel, AddAtom, RemoveChain, RemoveResidue, RemoveConformer, RemoveAtom, RemoveChainById, RemoveResidueById, RemoveConformerById, RemoveAtomBySerialNumber, RemoveAtomsBy, RemoveEmpty, JoinModels, JoinChains, JoinResidues, JoinConformers, SetElement}
 use Rattle.machine.specs.declared.Term.{Term}
+use Rattle.machine.specs.declared.Term.the-variants.{Hetero}
+use Rattle.machine.specs.declared.Ops.the-variants.{And}
 use Rattle.machine.specs.declared.Node.{Node}
 use Rattle.machine.specs.declared.Node.the-variants as Nodes
+use Rattle.demands.specs.Hetero.{isSide}
 use Rattle.pdbtbx.specs.Std.{Text, sameOption, isNone, Answer}
 use Rattle.pdbtbx.specs.Structs.{Atom, Struct, PDB, prepareIdentifierUppercase}
 use Rattle.pdbtbx.specs.Words.{optionElement}
@@ -93,6 +96,20 @@ searchIn (refused r) = Known false
 unfoldable pub searchOf : List ℕ → Search Term
 searchOf t = searchIn (readTree t)
 
+-- change request §8: "The crate's side of the comparison gets And Not Hetero on both terms."
+abbrev pub asked : Term → Search Term
+asked t = cond (isSide t) (Operator And (Single t) (Not (Single Hetero))) (Single t)
+
+unfoldable pub given : Search Term → Search Term
+given (Operator o a b) = Operator o (given a) (given b)
+given (Not a) = Not (given a)
+given (Single t) = asked t
+given (Known b) = Known b
+
+-- the search that the crate is given for a tree
+abbrev pub searchFor : List ℕ → Search Term
+searchFor t = given (searchOf t)
+
 -- ---- the calls
 
 -- |a| search.add_atom_info(a).complete() == Some(true)
@@ -128,7 +145,7 @@ edit (RemoveChainById i id) pdb = atPosition 0 4 (i ∷ []) (removeById 3 (sameC
 edit (RemoveResidueById i c serial code) pdb = atPosition 1 3 (i ∷ c ∷ []) (removeById 2 (sameResidue serial (optionOf code))) pdb
 edit (RemoveConformerById i c r name location) pdb = atPosition 2 2 (i ∷ c ∷ r ∷ []) (removeById 1 (sameConformer name (optionOf location))) pdb
 edit (RemoveAtomBySerialNumber i c r f serial) pdb = atPosition 3 1 (i ∷ c ∷ r ∷ f ∷ []) (removeById 0 (sameAtom serial)) pdb
-edit (RemoveAtomsBy i tree) pdb = atPosition 0 4 (i ∷ []) (λ (m : Struct 4). some (true, (m .0, removeAtomsBy 3 (chosen (searchOf tree)) (m .1)))) pdb
+edit (RemoveAtomsBy i tree) pdb = atPosition 0 4 (i ∷ []) (λ (m : Struct 4). some (true, (m .0, removeAtomsBy 3 (chosen (searchFor tree)) (m .1)))) pdb
 edit (RemoveEmpty i) pdb = atPosition 0 4 (i ∷ []) (λ (m : Struct 4). some (true, removeEmpty 2 m)) pdb
 edit (JoinModels i i′) pdb = joinAt 0 3 (i ∷ []) (i′ ∷ []) pdb
 edit (JoinChains i c i′ c′) pdb = joinAt 1 2 (i ∷ c ∷ []) (i′ ∷ c′ ∷ []) pdb

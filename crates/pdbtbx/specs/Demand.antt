@@ -27,7 +27,7 @@ use Rattle.pdbtbx.specs.Structs.{PDB, prepareIdentifierUppercase}
 use Rattle.pdbtbx.specs.Words.{pdbOf, machineFrom}
 use Rattle.pdbtbx.specs.Search.{Search, Operator, Not, Single, Known}
 use Rattle.pdbtbx.specs.Find.{countOf, findAt}
-use Rattle.pdbtbx.specs.Calls.{searchOf, edit, edits}
+use Rattle.pdbtbx.specs.Calls.{searchOf, searchFor, edit, edits}
 
 -- ---- trees and searches
 
@@ -138,8 +138,8 @@ module _ (w : List ℕ) (calls : List Call) where
     pub words : store ≡ layOut (length w) (machineFrom pdb)
     pub texts : pdb ≡ pdbOf (machineFrom pdb)
     -- an accepted run of find, from any start, has a search of the crate's, and lists what the crate's `find` gives for it at that start: `PDB::find`, or the
-    -- `find` of a model, a chain, a residue or a conformer
+    -- `find` of a model, a chain, a residue or a conformer. The search is given with And Not Hetero on Backbone and SideChain
     pub reads : (start t out : List ℕ) → Accepted (findFrom store start t out) → Reads t
-    pub hits : (start t out : List ℕ) → Accepted (findFrom store start t out) → findAt start (searchOf t) pdb ≡ some (list (findFrom store start t out))
+    pub hits : (start t out : List ℕ) → Accepted (findFrom store start t out) → findAt start (searchFor t) pdb ≡ some (list (findFrom store start t out))
     -- the other direction, for any call more: in the domain, what the crate takes the store takes, unless it has no room
     pub takes : (c : Call) → InDomain c → (found : Bool) (after : PDB) → edit c pdb ≡ some (found, after) → storeStep store c ≡ outcome (length w) store pdb found after

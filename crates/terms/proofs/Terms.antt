@@ -20,7 +20,7 @@ use Rattle.machine.specs.declared.Term.{Term}
 use Rattle.machine.specs.declared.Term.the-variants.{ModelSerialNumber, ModelSerialNumberRange, ChainId, ChainIdRange, ResidueSerialNumber, ResidueSerialNumberRange, ResidueInsertionCode, ResidueId, ConformerName, ConformerAlternativeLocation, ConformerId, AtomSerialNumber, AtomSerialNumberRange, AtomName, Element, BFactor, BFactorRange, Occupancy, OccupancyRange, Backbone, SideChain, Hetero}
 use Rattle.machine.proofs.Term.{the-type}
 use Rattle.laws.specs.Lists.{and-both, and-true}
-use Rattle.terms.specs.Levels.{byWords, narrow}
+use Rattle.terms.specs.Levels.{partOf, byWords, narrow}
 
 -- the number of a term's case, from 0
 abbrev pub caseOf : Term → ℕ
@@ -148,40 +148,45 @@ nothing names t = sym (other names 0 nowhere t (asks-none (caseOf t)))
 
 -- ---- an atom's terms by its words, and by its floats
 
--- whether the term of case g goes by the atom's words
-abbrev wordCase : ℕ → Bool
-wordCase g = leb 11 g && not (leb 15 g && leb g 18)
+-- what of an atom the term of case g goes by
+abbrev partCase : ℕ → ℕ
+partCase g = cond (leb g 10) 0 (cond (leb g 14) 2 (cond (leb g 18) 1 3))
 
-words-case : (t : Term) → byWords t ≡ wordCase (caseOf t)
-words-case (ModelSerialNumber n) = refl
-words-case (ModelSerialNumberRange a b) = refl
-words-case (ChainId n) = refl
-words-case (ChainIdRange a b) = refl
-words-case (ResidueSerialNumber n) = refl
-words-case (ResidueSerialNumberRange a b) = refl
-words-case (ResidueInsertionCode n) = refl
-words-case (ResidueId a b) = refl
-words-case (ConformerName n) = refl
-words-case (ConformerAlternativeLocation n) = refl
-words-case (ConformerId a b) = refl
-words-case (AtomSerialNumber n) = refl
-words-case (AtomSerialNumberRange a b) = refl
-words-case (AtomName n) = refl
-words-case (Element n) = refl
-words-case (BFactor n) = refl
-words-case (BFactorRange a b) = refl
-words-case (Occupancy n) = refl
-words-case (OccupancyRange a b) = refl
-words-case Backbone = refl
-words-case SideChain = refl
-words-case Hetero = refl
+part-case : (t : Term) → partOf t ≡ partCase (caseOf t)
+part-case (ModelSerialNumber n) = refl
+part-case (ModelSerialNumberRange a b) = refl
+part-case (ChainId n) = refl
+part-case (ChainIdRange a b) = refl
+part-case (ResidueSerialNumber n) = refl
+part-case (ResidueSerialNumberRange a b) = refl
+part-case (ResidueInsertionCode n) = refl
+part-case (ResidueId a b) = refl
+part-case (ConformerName n) = refl
+part-case (ConformerAlternativeLocation n) = refl
+part-case (ConformerId a b) = refl
+part-case (AtomSerialNumber n) = refl
+part-case (AtomSerialNumberRange a b) = refl
+part-case (AtomName n) = refl
+part-case (Element n) = refl
+part-case (BFactor n) = refl
+part-case (BFactorRange a b) = refl
+part-case (Occupancy n) = refl
+part-case (OccupancyRange a b) = refl
+part-case Backbone = refl
+part-case SideChain = refl
+part-case Hetero = refl
 
-pub by-float : (ks : List ℕ) (t : Term) → all (λ g. not (wordCase g)) ks ≡ true → OneOf ks (caseOf t) → byWords t ≡ false
-by-float ks t a h = words-case t ∙ not-true (wordCase (caseOf t)) (each-key (λ g. not (wordCase g)) ks (caseOf t) a h)
+-- an arm of cases that go by less than some part, or by no less
+module _ (least : ℕ) (ks : List ℕ) (t : Term) (h : OneOf ks (caseOf t)) where
+  pub by-less : all (λ g. not (leb least (partCase g))) ks ≡ true → leb least (partOf t) ≡ false
+  by-less a = ap (leb least) (part-case t) ∙ not-true (leb least (partCase (caseOf t))) (each-key (λ g. not (leb least (partCase g))) ks (caseOf t) a h)
+
+  pub by-more : all (λ g. leb least (partCase g)) ks ≡ true → leb least (partOf t) ≡ true
+  by-more a = ap (leb least) (part-case t) ∙ each-key (λ g. leb least (partCase g)) ks (caseOf t) a h
 
 -- an arm of cases that go by the atom's words, or don't ask for the atom
-pub no-float : (names : Names) (e : Place) (ks : List ℕ) (t : Term) → all (λ g. wordCase g || not (asks g 5)) ks ≡ true → OneOf ks (caseOf t) → byWords t ≡ false → Undecided ≡ termValue names (window 5 5 e) t
-no-float names e ks t a h q = sym (other names 5 e t (or-else (wordCase (caseOf t)) (not (asks (caseOf t) 5)) (each-key (λ g. wordCase g || not (asks g 5)) ks (caseOf t) a h) (sym (words-case t) ∙ q)))
+pub no-float : (names : Names) (e : Place) (ks : List ℕ) (t : Term) → all (λ g. leb 2 (partCase g) || not (asks g 5)) ks ≡ true → OneOf ks (caseOf t) → byWords t ≡ false → Undecided ≡ termValue names (window 5 5 e) t
+no-float names e ks t a h q = sym (other names 5 e t (or-else (leb 2 (partCase (caseOf t))) (not (asks (caseOf t) 5)) (each-key (λ g. leb 2 (partCase g) || not (asks g 5)) ks (caseOf t) a h) (ap (leb 2) (sym (part-case t)) ∙ q)))
   where
     or-else : (a b : Bool) → a || b ≡ true → a ≡ false → b ≡ true
     or-else true b h q = absurd (false≢true (sym q))

@@ -1,9 +1,10 @@
 -- Places at which one level alone is known, and the place that five records of a store make. Assumes nothing.
 use Prim.Native.Nat.{ℕ, _+_, _*_, _≤_}
-use mathlib.Core.Bool.{Bool, true, false}
+use mathlib.Core.Bool.{Bool}
 use mathlib.Core.List.{List}
 use mathlib.Core.Option.{Option, none, some}
 use lib.ListN.{length}
+use lib.Dec.{leb}
 use Rattle.machine.specs.Record.{Model, Chain, Residue, Conformer, Atom, fieldsOf}
 use Rattle.machine.specs.Query.{Place, window, termValue}
 use Rattle.machine.specs.declared.Tri.{Tri}
@@ -28,30 +29,37 @@ atConformer o = record { model = none; chain = none; residue = none; conformer =
 abbrev pub atAtom : Option Atom → Place
 atAtom o = record { model = none; chain = none; residue = none; conformer = none; atom = o }
 
--- a term that goes by the atom's numbers and names: all of an atom's but the four that go by its floats
+-- what of an atom a term goes by: 0 none of it, 1 one of its floats, 2 its numbers and its name, 3 first whether it is hetero
+abbrev pub partOf : Term → ℕ
+partOf (ModelSerialNumber n) = 0
+partOf (ModelSerialNumberRange a b) = 0
+partOf (ChainId n) = 0
+partOf (ChainIdRange a b) = 0
+partOf (ResidueSerialNumber n) = 0
+partOf (ResidueSerialNumberRange a b) = 0
+partOf (ResidueInsertionCode n) = 0
+partOf (ResidueId a b) = 0
+partOf (ConformerName n) = 0
+partOf (ConformerAlternativeLocation n) = 0
+partOf (ConformerId a b) = 0
+partOf (AtomSerialNumber n) = 2
+partOf (AtomSerialNumberRange a b) = 2
+partOf (AtomName n) = 2
+partOf (Element n) = 2
+partOf (BFactor n) = 1
+partOf (BFactorRange a b) = 1
+partOf (Occupancy n) = 1
+partOf (OccupancyRange a b) = 1
+partOf Backbone = 3
+partOf SideChain = 3
+partOf Hetero = 3
+
+-- none of the four terms that go by a float, and no term of a level above
 abbrev pub byWords : Term → Bool
-byWords (ModelSerialNumber n) = false
-byWords (ModelSerialNumberRange a b) = false
-byWords (ChainId n) = false
-byWords (ChainIdRange a b) = false
-byWords (ResidueSerialNumber n) = false
-byWords (ResidueSerialNumberRange a b) = false
-byWords (ResidueInsertionCode n) = false
-byWords (ResidueId a b) = false
-byWords (ConformerName n) = false
-byWords (ConformerAlternativeLocation n) = false
-byWords (ConformerId a b) = false
-byWords (AtomSerialNumber n) = true
-byWords (AtomSerialNumberRange a b) = true
-byWords (AtomName n) = true
-byWords (Element n) = true
-byWords (BFactor n) = false
-byWords (BFactorRange a b) = false
-byWords (Occupancy n) = false
-byWords (OccupancyRange a b) = false
-byWords Backbone = true
-byWords SideChain = true
-byWords Hetero = true
+byWords t = leb 2 (partOf t)
+
+abbrev pub byHetero : Term → Bool
+byHetero t = leb 3 (partOf t)
 
 -- all five levels known
 unfoldable pub placeAt : List ℕ → RecordNumbers → Place

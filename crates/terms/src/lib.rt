@@ -6,7 +6,7 @@ use machine::RecordNumbers;
 use machine::Term;
 use machine::Tri;
 ghost use mathlib.Core.Path.{_≡_};
-ghost use mathlib.Core.Bool.{cond, false};
+ghost use mathlib.Core.Bool.{cond, true, false};
 ghost use mathlib.Core.List.{List};
 ghost use mathlib.Core.Option.{some};
 ghost use Prim.Native.Nat.{ℕ, _+_, _*_, _≤_, _<_};
@@ -17,7 +17,7 @@ ghost use Rattle.machine.specs.Record.{Atom, fieldsOf, readOut};
 ghost use Rattle.machine.specs.Query as Query;
 ghost use Rattle.machine.specs.declared.Tri.the-variants.{False, Undecided};
 ghost use Rattle.seek.specs.Seek.{recordAt};
-ghost use Rattle.terms.specs.Levels.{atModel, atChain, atResidue, atConformer, atAtom, byWords, termValueAt, narrow, Inside};
+ghost use Rattle.terms.specs.Levels.{atModel, atChain, atResidue, atConformer, atAtom, byWords, byHetero, termValueAt, narrow, Inside};
 
 // ---- Kleene's tables
 
@@ -190,6 +190,29 @@ fn matches_float(t: Term, atom: AtomRec) -> Tri
     }
 }
 
+// The terms that ask whether the atom is hetero. Change request §8: "Hetero goes first: on a hetero atom Backbone and SideChain are false." It is
+// tested in one place, before the term, so that no other term reads its word.
+fn matches_hetero(t: Term, atom: AtomRec, atoms: &[u64]) -> Tri
+    ensures { λ r. ⌜ ((a : Atom) → atom ≡ readOut a → byHetero t ≡ true → (others : List ℕ)
+        → r ≡ Query.termValue (record { residues = others; atoms = now (atoms .entry) }) (atAtom (some a)) t) ⌝ }
+{
+    if atom.hetero {
+        match t {
+            Term::Backbone => Tri::False,
+            Term::SideChain => Tri::False,
+            Term::Hetero => Tri::True,
+            _ => Tri::Undecided,
+        }
+    } else {
+        match t {
+            Term::Backbone => decided(reference_tables::contains(atoms, atom.name)),
+            Term::SideChain => decided(!reference_tables::contains(atoms, atom.name)),
+            Term::Hetero => Tri::False,
+            _ => Tri::Undecided,
+        }
+    }
+}
+
 // The atom is given as it is read out of its record.
 pub fn optional_matches_atom(t: Term, atom: AtomRec, atoms: &[u64]) -> Tri
     ensures { λ r. ⌜ ((a : Atom) → atom ≡ readOut a → (others : List ℕ)
@@ -200,9 +223,7 @@ pub fn optional_matches_atom(t: Term, atom: AtomRec, atoms: &[u64]) -> Tri
         Term::AtomSerialNumberRange(low, high) => decided(between(low, high, atom.serial)),
         Term::AtomName(n) => decided(atom.name == n),
         Term::Element(n) => element_is(atom.element, n),
-        Term::Backbone => decided(reference_tables::contains(atoms, atom.name)),
-        Term::SideChain => decided(!reference_tables::contains(atoms, atom.name)),
-        Term::Hetero => decided(atom.hetero),
+        Term::Backbone | Term::SideChain | Term::Hetero => matches_hetero(t, atom, atoms),
         _ => matches_float(t, atom),
     }
 }
