@@ -36,6 +36,7 @@ pub fn trees() -> Vec<Tree> {
         tree("residue range", Search::Single(residues()), both("/*/*/100-199")),
         tree("AtomName", Search::Single(Term::AtomName("CA".into())), both("/*/*/*/CA")),
         tree("ChainId & AtomName", chain() & Term::AtomName("CA".into()), both("/*/B/*/CA")),
+        // The crate's Backbone doesn't leave out hetero atoms. Here these are waters', which it has none of.
         tree("Backbone", Search::Single(Term::Backbone), both(BACKBONE)),
         // The B-factors are whole numbers; gemmi's bounds aren't part of the range.
         tree("B range", Search::Single(b_range()), [Some("//*//;b>19;b<31"), None]),

@@ -62,6 +62,9 @@
 //! What is read out knows no words, so the crate's `find` of a model, chain, residue or conformer is a method of the store that takes
 //! the position: [Store::model_find], [Store::chain_find], [Store::residue_find], [Store::conformer_find].
 //!
+//! Searches find what the crate's find, but for hetero atoms under names of amino acids: [Term::Backbone] and [Term::SideChain] are
+//! false there, so the atoms of a soaked free glycine are hits of [Term::Hetero] alone.
+//!
 //! ## What the crate has and this package leaves out
 //!
 //! - All that ends in `_mut`, each `set_..`, the constructors, `sort`, `renumber`, `apply_transformation`: words are edited by the

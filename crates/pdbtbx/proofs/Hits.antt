@@ -17,7 +17,6 @@ use Rattle.machine.specs.declared.Tri.{Tri}
 use Rattle.machine.specs.declared.Tri.the-variants.{False, Undecided}
 use Rattle.machine.specs.declared.Term.{Term}
 use Rattle.machine.specs.declared.Term.the-variants.{ModelSerialNumber, ModelSerialNumberRange, ChainId, ChainIdRange, ResidueSerialNumber, ResidueSerialNumberRange, ResidueInsertionCode, ResidueId, ConformerName, ConformerAlternativeLocation, ConformerId, AtomSerialNumber, AtomSerialNumberRange, AtomName, Element, BFactor, BFactorRange, Occupancy, OccupancyRange, Backbone, SideChain, Hetero}
-use Rattle.machine.specs.declared.Ops.the-variants.{And}
 use Rattle.laws.specs.Kleene.{toTri}
 use Rattle.laws.specs.Lists.{length-concatMap}
 use Rattle.laws.specs.Counting.{filter-append}
@@ -30,7 +29,7 @@ use Rattle.pdbtbx.specs.Words.{isize, saysOf, structOf, structsOf}
 use Rattle.pdbtbx.specs.Search.{Search, Operator, Not, Single, Known}
 use Rattle.pdbtbx.specs.Matches.{optionalMatches, matchesAt}
 use Rattle.pdbtbx.specs.Find.{Item, find, countOf, item, items}
-use Rattle.pdbtbx.specs.Calls.{searchOf, asked, given, searchFor}
+use Rattle.pdbtbx.specs.Calls.{searchOf, askedBy, asked, given, searchFor}
 use Rattle.pdbtbx.specs.Demand.{value, Reads}
 use Rattle.pdbtbx.proofs.Values.{value-same, listed, find-all}
 use Rattle.pdbtbx.proofs.Texts.{same-string, eqb-swap, same-option, before-string, among-amino-acids, among-backbone}
@@ -121,7 +120,7 @@ asked-value : (e : Place) (t : Term) → value (own e) (asked t) ≡ termValue t
 unfolding value
 asked-value e t = go (isSide t) refl
   where
-    go : (b : Bool) → isSide t ≡ b → value (own e) (cond b (Operator And (Single t) (Not (Single Hetero))) (Single t)) ≡ termValue tables e t
+    go : (b : Bool) → isSide t ≡ b → value (own e) (askedBy b t) ≡ termValue tables e t
     go true h = ap₂ (λ (x y : Tri). andT x (notT y)) (told-value e t) (told-value e Hetero) ∙ sym (hetero-first tables .sides e t h)
     go false h = told-value e t ∙ sym (same-others tables e t h)
 

@@ -97,8 +97,12 @@ unfoldable pub searchOf : List ℕ → Search Term
 searchOf t = searchIn (readTree t)
 
 -- change request §8: "The crate's side of the comparison gets And Not Hetero on both terms."
+abbrev pub askedBy : Bool → Term → Search Term
+askedBy true t = Operator And (Single t) (Not (Single Hetero))
+askedBy false t = Single t
+
 abbrev pub asked : Term → Search Term
-asked t = cond (isSide t) (Operator And (Single t) (Not (Single Hetero))) (Single t)
+asked t = askedBy (isSide t) t
 
 unfoldable pub given : Search Term → Search Term
 given (Operator o a b) = Operator o (given a) (given b)
