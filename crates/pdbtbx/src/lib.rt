@@ -12,6 +12,9 @@
 //   conformer doesn't refer to what was passed on the way; the caller does, so those numbers stand before the hit's;
 // - a loop with `break`, and the push that follows it, is an index and `onCurrent`.
 //
+// Asked otherwise, where document 01 differs from the crate (specs/Calls.antt): an addition's code and location are prepared, `set_element` is asked where there
+// is no element, and Backbone and SideChain are given with And Not Hetero.
+//
 // Assumed of std, for bytes below 128: specs/Std.antt, whose head names the definitions of `machine` that stand for `str::trim`, `<=` of `str`,
 // `f64::is_finite`, `==` of `isize`, `filter` and `retain`.
 //
