@@ -21,7 +21,7 @@ use Rattle.machine.specs.declared.Node.the-variants.{Single, Binary, Not, Known
 
 -- ---- the two terms
 
--- what each makes of whether an atom's name is one of the backbone's; the other terms are none of the two
+-- what each makes of whether an atom's name is one of the backbone's; no other term is one of the two
 abbrev pub sideOf : Term → Option (Bool → Bool)
 sideOf (ModelSerialNumber n) = none
 sideOf (ModelSerialNumberRange a b) = none
