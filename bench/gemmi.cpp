@@ -1,5 +1,6 @@
-// gemmi's structure, selections and PDB writer, for bench/others.rs.
+// gemmi's structure, selections, PDB writer and PDB reader, for bench/others.rs.
 #define GEMMI_WRITE_IMPLEMENTATION
+#include <gemmi/pdb.hpp>
 #include <gemmi/select.hpp>
 #include <gemmi/to_pdb.hpp>
 #include <streambuf>
@@ -63,4 +64,15 @@ extern "C" size_t gemmi_write(char *out, size_t length) {
     std::ostream stream(&lent);
     gemmi::write_minimal_pdb(structure, stream);
     return lent.written();
+}
+
+// The number of atoms that gemmi reads of PDB lines.
+extern "C" size_t gemmi_read(const char *text, size_t length) {
+    gemmi::Structure read = gemmi::read_pdb_from_memory(text, length, "text");
+    size_t atoms = 0;
+    for (auto &model : read.models)
+        for (auto &chain : model.chains)
+            for (auto &residue : chain.residues)
+                atoms += residue.atoms.size();
+    return atoms;
 }

@@ -9,6 +9,7 @@ type Select = unsafe extern "C" fn(cid: Text) -> usize;
 type Clear = unsafe extern "C" fn();
 type Place = unsafe extern "C" fn(x: f64, y: f64, z: f64, hetero: bool);
 type Write = unsafe extern "C" fn(out: *mut u8, length: usize) -> usize;
+type Read = unsafe extern "C" fn(text: *const u8, length: usize) -> usize;
 
 #[cfg(any(gemmi, mmdb2))]
 extern "C" {
@@ -22,6 +23,8 @@ extern "C" {
     fn gemmi_place(x: f64, y: f64, z: f64, hetero: bool);
     #[cfg(gemmi)]
     fn gemmi_write(out: *mut u8, length: usize) -> usize;
+    #[cfg(gemmi)]
+    fn gemmi_read(text: *const u8, length: usize) -> usize;
     #[cfg(mmdb2)]
     fn mmdb2_add(chain: Text, residue: c_int, conformer: Text, name: Text, element: Text, b_factor: f64);
     #[cfg(mmdb2)]
@@ -36,6 +39,10 @@ const GEMMI: Option<(Add, Select)> = None;
 const GEMMI_WRITING: Option<(Clear, Place, Write)> = Some((gemmi_clear, gemmi_place, gemmi_write));
 #[cfg(not(gemmi))]
 const GEMMI_WRITING: Option<(Clear, Place, Write)> = None;
+#[cfg(gemmi)]
+const GEMMI_READING: Option<Read> = Some(gemmi_read);
+#[cfg(not(gemmi))]
+const GEMMI_READING: Option<Read> = None;
 #[cfg(mmdb2)]
 const MMDB2: Option<(Add, Select)> = Some((mmdb2_add, mmdb2_select));
 #[cfg(not(mmdb2))]
@@ -90,4 +97,9 @@ pub fn build_in_places(atoms: &[AtomAt], place: fn(&AtomAt) -> [f64; 3]) -> bool
 // The number of bytes that gemmi's PDB writer puts into the output.
 pub fn write_by_gemmi(out: &mut [u8]) -> usize {
     GEMMI_WRITING.map_or(0, |(_, _, write)| unsafe { write(out.as_mut_ptr(), out.len()) })
+}
+
+// The number of atoms that gemmi's PDB reader finds in a text; 0 without gemmi.
+pub fn read_by_gemmi(text: &[u8]) -> usize {
+    GEMMI_READING.map_or(0, |read| unsafe { read(text.as_ptr(), text.len()) })
 }

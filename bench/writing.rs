@@ -5,8 +5,8 @@ use super::port;
 use super::store::{self, AtomAt};
 use std::hint::black_box;
 
-const SIZES: [u64; 4] = [250, 500, 1_000, store::RESIDUES];
-const LINE: usize = 81;
+pub const SIZES: [u64; 4] = [250, 500, 1_000, store::RESIDUES];
+pub const LINE: usize = 81;
 
 // Of a protein's size, to three decimals; the other structures here have all atoms at 0.
 fn place(a: &AtomAt) -> [f64; 3] {
@@ -14,7 +14,7 @@ fn place(a: &AtomAt) -> [f64; 3] {
 }
 
 // The benchmarks' structure with its atoms in their places.
-fn words(atoms: &[AtomAt], residues: u64) -> Vec<u64> {
+pub fn words(atoms: &[AtomAt], residues: u64) -> Vec<u64> {
     let mut words = store::words(residues, 0);
     for (record, a) in words.chunks_exact_mut(12).filter(|record| record[0] == 5).zip(atoms) {
         record[3..6].copy_from_slice(&place(a).map(f64::to_bits));

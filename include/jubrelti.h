@@ -5,9 +5,10 @@
  * pkgconfig/jubrelti.pc in it is for pkg-config.
  *
  * A store is an array of words that the caller owns: 12 for each record (model, chain, residue, conformer or atom) and one more,
- * at most 1,200,001. Each call takes the store and its length in words first. Positions are indexes from 0, from the model down.
- * A text is a pointer and a length in bytes, without a zero byte at the end; an optional one has a flag before it, 0 absent or
- * 1 present. Floats and signed numbers are given by their bits. docs/FORMATS.md has the words of stores, trees and hits.
+ * at most 1,200,001. Each call takes the store and its length in words first, but for jubrelti_read_pdb, which takes it behind the
+ * text. Positions are indexes from 0, from the model down. A text is a pointer and a length in bytes, without a zero byte at the
+ * end; an optional one has a flag before it, 0 absent or 1 present. Floats and signed numbers are given by their bits.
+ * docs/FORMATS.md has the words of stores, trees and hits.
  *
  * A call that refuses gives a number above 0 as its result and 0 in every other field, and has changed nothing.
  *
@@ -30,7 +31,7 @@
 
 /* The version of this header, as one number too: major * 1,000,000 + minor * 1,000 + patch. */
 #define JUBRELTI_VERSION_MAJOR 0
-#define JUBRELTI_VERSION_MINOR 9
+#define JUBRELTI_VERSION_MINOR 10
 #define JUBRELTI_VERSION_PATCH 0
 #define JUBRELTI_VERSION (JUBRELTI_VERSION_MAJOR * 1000000 + JUBRELTI_VERSION_MINOR * 1000 + JUBRELTI_VERSION_PATCH)
 
@@ -45,8 +46,8 @@
 extern "C" {
 #endif
 
-/* Results. They are checked in the order 1, 2, 5, 9, then 3 (length), 4, 3 (shape), 6, 14, 15, 16, 7, 8, 12, 13, 10. The program `find`
-   alone gives 11, and jubrelti_apply alone 22 and 23, after 1 and 2. */
+/* Results. They are checked in the order 1, 2, 5, 9, then 3 (length), 4, 3 (shape), 6, 14, 15, 16, 7, 17, 8, 12, 13, 10. The program
+   `find` alone gives 11, and jubrelti_apply alone 22 and 23, after 1 and 2. */
 enum {
     /* bindings/tables: results */
     JUBRELTI_DONE = 0,
@@ -70,6 +71,7 @@ enum {
     JUBRELTI_BAD_CONFORMER = 15,      /* a bad conformer name, an alternative location of over 8 bytes, or a location's flag
                                          above 1 */
     JUBRELTI_BAD_ATOM_NAME = 16,      /* a bad atom name */
+    JUBRELTI_BAD_TEXT = 17,           /* a text that the writer could not have made */
     JUBRELTI_BAD_LIST = 22,           /* the words are not a well-formed list of edits */
     JUBRELTI_SHORT_ANSWERS = 23       /* the output is shorter than three words for each edit */
     /* bindings/tables: end of results */
@@ -201,6 +203,13 @@ JubreltiLookup jubrelti_binary_find_atom(const uint64_t *store, size_t length, u
    newline each. Values are rounded to nearest, exact halves to the even digit. Bytes of the output past the text stay. */
 JubreltiWrite jubrelti_write_pdb(const uint64_t *JUBRELTI_RESTRICT store, size_t length, uint8_t *JUBRELTI_RESTRICT out,
                                  size_t out_length);
+
+/* Opens the store, whatever its words hold, and adds the models and atoms of a text in its order, as jubrelti_add_model and
+   jubrelti_add_atom do: so equal ids share a chain, a residue and a conformer. It takes exactly the texts that jubrelti_write_pdb
+   could write from a store of any length, the empty one too. A decimal is the f64 nearest to it. Gives 0; or 1, 17 or 8, checked in
+   this order, and then the store is as it was. A record for each model and four for each atom are always enough. */
+uint64_t jubrelti_read_pdb(const uint8_t *JUBRELTI_RESTRICT text, size_t text_length, uint64_t *JUBRELTI_RESTRICT store,
+                           size_t length);
 
 /* ---- edits */
 
@@ -411,6 +420,9 @@ static const struct {
      "printable ASCII characters and the location at most 8, not counting spaces at the ends"},
     {JUBRELTI_BAD_ATOM_NAME,
      "the atom's name is bad; give it at most 8 printable ASCII characters, not counting spaces at its ends"},
+    {JUBRELTI_BAD_TEXT,
+     "the text isn't PDB lines as write_pdb writes them; give each line 80 columns and a newline, MODEL and ENDMDL around the "
+     "atoms of each model and no other lines, and each field its columns of docs/FORMATS.md"},
     {JUBRELTI_BAD_LIST,
      "the list isn't well-formed, or an edit in it has over 1,024 words; give each edit the words of its code, and shorten its "
      "texts or its search"},

@@ -1,13 +1,15 @@
 // compare [SEED] [LISTS] [READER]: the port beside pdbtbx's own files and a plain reading of document 01: small texts, bad names, trees,
-// starts, elements and floats in full, then random lists of calls, each also as one call; and its PDB lines beside a plain reading of change
-// request §1 and, where the program READER is given, read back by gemmi.
+// starts, elements and floats in full, then random lists of calls, each also as one call; and its PDB lines, written and read, beside plain
+// readings of change requests §1 and §9 and, where the program READER is given, read back by gemmi. Run it in the repository's folder.
 mod elements;
+mod files;
 mod fitting;
 mod floats;
 mod hetero;
 mod identifiers;
 mod judges;
 mod junk;
+mod lines_in;
 mod list;
 mod names;
 #[macro_use]
@@ -17,6 +19,7 @@ mod port;
 mod random;
 mod read_back;
 mod reading;
+mod reading_lines;
 mod sides;
 mod starts;
 mod text;
@@ -115,6 +118,7 @@ fn main() {
     floats::compare_classes();
     writing::compare_formatting(&mut Random::new(seed)).print();
     writing::compare_limits();
+    reading_lines::compare_limits();
     let mut totals = Totals::default();
     let random = |i: u64| Random::new(seed.wrapping_mul(1_000_003).wrapping_add(i));
     let spoilt: u64 = (0..lists).map(|i| list(&mut random(i), &mut totals)).sum();
@@ -132,6 +136,10 @@ fn main() {
     let mut writes = writing::Counts::default();
     (0..lists).for_each(|i| writing::compare_random(&mut random(i), &mut writes));
     writes.print(&format!("seed {seed}, {lists} random structures, each also with a word spoilt"));
+    let mut reads = reading_lines::Counts::default();
+    (0..lists).for_each(|i| reading_lines::compare_random(&mut random(i), &mut reads));
+    reads.print(&format!("seed {seed}, texts of {lists} random structures, whole, in another order and spoilt"));
+    files::compare(args.get(2), &mut random(0));
     if let Some(reader) = args.get(2) {
         read_back::compare(reader, lists / 20, random);
     }

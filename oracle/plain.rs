@@ -295,7 +295,8 @@ fn add_atom(
     Ok(1)
 }
 
-fn step(m: &mut Machine, length: usize, call: &Call) -> Step {
+// One call; a refused addition leaves the machine as it was.
+pub fn step(m: &mut Machine, length: usize, call: &Call) -> Step {
     match call {
         Call::AddModel(serial) => {
             room(m, 1, length)?;

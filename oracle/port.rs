@@ -4,7 +4,7 @@
 mod ffi;
 
 #[allow(unused_imports)]
-pub use ffi::{apply, check, copy, open, write_pdb, Apply, Edit, Find, Lookup, NewAtom, Write};
+pub use ffi::{apply, check, copy, open, read_pdb, write_pdb, Apply, Edit, Find, Lookup, NewAtom, Write};
 
 // An optional text: its flag, and its bytes.
 #[derive(Clone, Debug, PartialEq)]

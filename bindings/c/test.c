@@ -120,6 +120,39 @@ static void lines(void) {
     free(text);
 }
 
+/* The lines of two atoms read: into words that were never opened, and of exactly their records. */
+static void read_lines(void) {
+    const char *text = "MODEL        1                                                                  \n"
+                       "ATOM      1  N   ALA A   7       1.500  -0.001   0.000  1.00  0.00           N  \n"
+                       "HETATM    2 CA    CA A   7       2.062   0.000   0.000  1.00  0.00          CA2+\n"
+                       "ENDMDL                                                                          \n";
+    enum { TEXT = 4 * 81, RECORDS = 7, WORDS = JUBRELTI_WORDS(RECORDS) };
+    /* The text stands at the end of its block, so that valgrind sees an access behind it. */
+    uint64_t *block = junk(2 * TEXT / 8);
+    uint8_t *lent = (uint8_t *)block + TEXT;
+    uint64_t *read = junk(WORDS);
+    uint64_t *as_it_was = junk(WORDS);
+    memcpy(lent, text, TEXT);
+    expect("a record short", jubrelti_read_pdb(lent, TEXT, read, WORDS - 1), JUBRELTI_NO_CAPACITY);
+    expect("a line short", jubrelti_read_pdb(lent, TEXT - 81, read, WORDS), JUBRELTI_BAD_TEXT);
+    expect("a bad text comes before a lack of room", jubrelti_read_pdb(lent, TEXT - 1, read, 1), JUBRELTI_BAD_TEXT);
+    expect("no words come first", jubrelti_read_pdb(lent, TEXT - 1, read, 0), JUBRELTI_BAD_LENGTH);
+    expect("the store is as it was", memcmp(read, as_it_was, WORDS * sizeof *read) == 0, 1);
+    expect("read lines", jubrelti_read_pdb(lent, TEXT, read, WORDS), JUBRELTI_DONE);
+    expect("a good store", jubrelti_check(read, WORDS), JUBRELTI_DONE);
+    expect("its records", jubrelti_records(read, WORDS), RECORDS);
+    expect("y of record 4, the nearest float", read[4 * 12 + 4], jubrelti_bits(-0.001));
+    expect("calcium's charge", (uint64_t)jubrelti_atom_charge(read, 6), 2);
+    JubreltiWrite written = jubrelti_write_pdb(read, WORDS, lent, TEXT);
+    expect("write them again", written.length, TEXT);
+    expect("the same bytes", memcmp(lent, text, TEXT) == 0, 1);
+    expect("no lines", jubrelti_read_pdb(NULL, 0, read, WORDS), JUBRELTI_DONE);
+    expect("open the store", read[0] == 0 && jubrelti_records(read, WORDS) == 0, 1);
+    free(block);
+    free(read);
+    free(as_it_was);
+}
+
 static void edit(void) {
     const uint64_t not_nitrogen[] = {JUBRELTI_NODE_ELEMENT(7), JUBRELTI_NODE_NOT};
     expect("what was never opened can't be copied", jubrelti_copy(longer, LONGER, store, LENGTH), JUBRELTI_BROKEN_LAYOUT);
@@ -211,6 +244,7 @@ static void no_store(void) {
     expect("from a conformer", jubrelti_conformer_find(NULL, 0, 0, 0, 0, 0, all, 3, out, OUT).result, JUBRELTI_BAD_LENGTH);
     expect("look up in no words", jubrelti_binary_find_atom(NULL, 0, 1, 0, NULL, 0).result, JUBRELTI_BAD_LENGTH);
     expect("write no words", jubrelti_write_pdb(NULL, 0, NULL, 0).result, JUBRELTI_BAD_LENGTH);
+    expect("read lines into no words", jubrelti_read_pdb(NULL, 0, NULL, 0), JUBRELTI_BAD_LENGTH);
     expect("edit no words", jubrelti_add_model(NULL, 0, 1).result, JUBRELTI_BAD_LENGTH);
     expect("set an element in no words", jubrelti_set_element(NULL, 0, 0, 0, 0, 0, 0, 119).result, JUBRELTI_BAD_LENGTH);
     expect("apply a list to no words", jubrelti_apply(NULL, 0, NULL, 0, NULL, 0).result, JUBRELTI_BAD_LENGTH);
@@ -515,6 +549,7 @@ int main(void) {
     build();
     search();
     lines();
+    read_lines();
     edit();
     elements();
     elements_in_a_list();

@@ -5,10 +5,10 @@ This package is a thin layer over its C interface: it turns Python values into w
 else. It is tested, not proved.
 """
 
-__version__ = "0.9.0"
+__version__ = "0.10.0"
 
 from ._edits import Applied, Edited, Edits, NewAtom
-from ._errors import EditError, Error, QueryTextError, StaleHitError
+from ._errors import EditError, Error, LineError, QueryTextError, StaleHitError
 from ._hierarchy import Atom, Chain, Conformer, Hit, Hits, Model, Parts, Residue
 from ._search import (
     AtomName,
@@ -67,6 +67,7 @@ __all__ = [
     "Hit",
     "Hits",
     "Known",
+    "LineError",
     "Model",
     "ModelSerialNumber",
     "ModelSerialNumberRange",

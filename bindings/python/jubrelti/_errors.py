@@ -54,6 +54,19 @@ class EditError(Error):
         self._sentence = f"edit {index} of the list is refused: {cause}"
 
 
+class LineError(Error):
+    """A text that `Store.read_pdb` doesn't take: `line` is the number, from 1, of the line at which it stops being PDB lines as
+    `write_pdb` writes them. It is one past the last line where the text ends before an ENDMDL line.
+    """
+
+    def __init__(self, line: int) -> None:
+        Exception.__init__(self, line)
+        self.number = NUMBERS["BadText"]
+        self.name, sentence = _REFUSALS[self.number]
+        self.line = line
+        self._sentence = f"line {line}: {sentence}"
+
+
 class StaleHitError(RuntimeError):
     """A hit, or a part of the structure, was read after the store was edited. Its record numbers may name others by now."""
 

@@ -128,6 +128,7 @@ FINDS = tuple(
 )
 binary_find_atom = _declared(_LIBRARY, "jubrelti_binary_find_atom", _Lookup, *_SLICE, _U64, _U64, *_TEXT)
 write_pdb = _declared(_LIBRARY, "jubrelti_write_pdb", _Written, *_SLICE, ctypes.POINTER(ctypes.c_uint8), ctypes.c_size_t)
+read_pdb = _declared(_LIBRARY, "jubrelti_read_pdb", _U64, *_TEXT, *_SLICE)
 apply = _declared(_LIBRARY, "jubrelti_apply", _Applied, *_SLICE, *_SLICE, *_SLICE)
 
 # The texts and flags of an atom's place and name, as the header has them.

@@ -11,8 +11,9 @@ from typing import Any, NamedTuple, Optional, Sequence, Tuple, Union
 from . import _library as library
 from . import _values as values
 from ._edits import Applied, Edited, Editing, Edits, Position
-from ._errors import NUMBERS, Error, check, refusal
+from ._errors import NUMBERS, Error, LineError, check, refusal
 from ._hierarchy import HIT, RECORD, Atom, Chain, Conformer, Hit, Hits, Model, Parts, Residue
+from ._lines import LINE, bad_line, records_enough
 from ._search import Search, tree
 
 MAX_RECORDS = 100_000
@@ -273,11 +274,30 @@ class Store(Editing[Edited]):
         "PDB lines"). Values are rounded to nearest, exact halves to the even digit.
         """
         counts = self.counts
-        # 81 bytes for each atom, and for each model twice.
-        out = (ctypes.c_uint8 * ((2 * counts.models + counts.atoms) * 81))()
+        # A line for each atom, and for each model two.
+        out = (ctypes.c_uint8 * ((2 * counts.models + counts.atoms) * LINE))()
         written = library.write_pdb(*library.lend(self._words), out, len(out))
         check(written.result)
         return bytes(out[: written.length]).decode("ascii")
+
+    @classmethod
+    def read_pdb(cls, text: str) -> Store:
+        """The structure of PDB lines, in a store that has room for it and grows.
+
+        It takes exactly the texts that `write_pdb` could write, the empty one too. The models and atoms are added in the text's order,
+        so equal ids share a chain, a residue and a conformer. A decimal is the float nearest to it. Any other text is a `LineError`,
+        which says at which line it stops being one.
+        """
+        if not isinstance(text, str):
+            raise TypeError(f"PDB lines are a text, not {type(text).__name__}")
+        # What isn't ASCII stands in no line, and the library says so, of a lone surrogate too.
+        given = text.encode(errors="surrogatepass")
+        words = _zeros(_length(min(records_enough(given), MAX_RECORDS)))
+        result = library.read_pdb(given, len(given), *library.lend(words))
+        if result == NUMBERS["BadText"]:
+            raise LineError(bad_line(given))
+        check(result)
+        return cls._of(words)
 
     # ---- edits
 

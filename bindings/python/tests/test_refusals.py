@@ -82,12 +82,12 @@ class Refusals(unittest.TestCase):
             self.assertEqual((error.number, error.name, str(error), repr(error)), (number, name, sentence, f"Error({number})"))
             self.assertIn("; ", sentence)
             self.assertTrue(cause)
-        self.assertEqual([row[0] for row in REFUSALS], [*range(1, 17), 22, 23])
+        self.assertEqual([row[0] for row in REFUSALS], [*range(1, 18), 22, 23])
         with self.assertRaisesRegex(RuntimeError, "refusal 99 is unknown"):
             check(99)
 
     def test_errors_can_be_pickled(self):
-        for error in (Error(5), EditError(3, Error(8)), QueryTextError("123456789"), StaleHitError()):
+        for error in (Error(5), EditError(3, Error(8)), QueryTextError("123456789"), LineError(7), StaleHitError()):
             again = pickle.loads(pickle.dumps(error))
             self.assertEqual((type(again), str(again)), (type(error), str(error)))
 

@@ -22,6 +22,11 @@ macro_rules! refusals {
                 /// The version of this package.
                 package: u64,
             },
+            /// 17, of [Store::read_pdb](crate::Store::read_pdb): at this line the text stops being one that the writer could have made.
+            BadLine {
+                /// The line's number, from 1. It is one past the last line where the text ends before an ENDMDL line.
+                line: usize,
+            },
             /// An edit of a list was refused.
             Edit {
                 /// The edit's index in its list, from 0. In a [ModelBuilder](crate::ModelBuilder) it is the atom's index.
@@ -38,6 +43,7 @@ macro_rules! refusals {
                 match self {
                     $(Error::$case => Some($number),)*
                     Error::Unknown(number) => Some(*number),
+                    Error::BadLine { .. } => Error::BadText.number(),
                     Error::Edit { cause, .. } => cause.number(),
                     Error::QueryText(_) | Error::Element(_) | Error::OtherVersion { .. } => None,
                 }
@@ -59,6 +65,7 @@ macro_rules! refusals {
                     Error::QueryText(text) => query_text(f, text),
                     Error::Element(symbol) => element(f, symbol),
                     Error::OtherVersion { library, package } => other_version(f, *library, *package),
+                    Error::BadLine { line } => write!(f, "line {line}: {}", Error::BadText),
                     Error::Edit { index, cause } => edit(f, *index, cause),
                 }
             }

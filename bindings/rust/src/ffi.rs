@@ -119,6 +119,7 @@ extern "C" {
     fn jubrelti_binary_find_atom(store: Shared, n: usize, serial: u64, flag: u64, location: Bytes, l: usize) -> Lookup;
     fn jubrelti_apply(store: Words, n: usize, list: Shared, l: usize, out: Words, o: usize) -> Apply;
     fn jubrelti_write_pdb(store: Shared, n: usize, out: Text, o: usize) -> Write;
+    fn jubrelti_read_pdb(text: Bytes, t: usize, store: Words, n: usize) -> u64;
     fn jubrelti_add_model(store: Words, n: usize, serial: u64) -> Edit;
     #[rustfmt::skip]
     fn jubrelti_add_atom(
@@ -245,6 +246,11 @@ pub fn apply(store: &mut [u64], list: &[u64], out: &mut [u64]) -> Apply {
 pub fn write_pdb(store: &[u64], out: &mut [u8]) -> Write {
     // SAFETY: `store` is read, and `out` is borrowed by `&mut` and written.
     unsafe { jubrelti_write_pdb(store.as_ptr(), store.len(), out.as_mut_ptr(), out.len()) }
+}
+
+pub fn read_pdb(text: &[u8], store: &mut [u64]) -> u64 {
+    // SAFETY: `text` is read, and `store` is borrowed by `&mut` and written.
+    unsafe { jubrelti_read_pdb(text.as_ptr(), text.len(), store.as_mut_ptr(), store.len()) }
 }
 
 pub fn add_model(store: &mut [u64], serial: u64) -> Edit {

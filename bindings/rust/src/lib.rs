@@ -96,6 +96,7 @@ mod error;
 #[allow(unsafe_code)]
 mod ffi;
 mod hierarchy;
+mod lines;
 mod list;
 mod model;
 mod new_atom;
@@ -127,7 +128,7 @@ pub use search::{Ops, Search, Term};
 pub use store::{Store, Words, MAX_RECORDS};
 
 /// The version of these bindings, and of the library that they call: major * 1,000,000 + minor * 1,000 + patch.
-pub const VERSION: u64 = 9_000;
+pub const VERSION: u64 = 10_000;
 
 // A library of another version may lay out its words or number its refusals in another way. A patch changes neither.
 fn check_version() -> Result<(), Error> {
@@ -158,7 +159,7 @@ mod tests {
         for number in 1..100 {
             let refusal = Error::check(number).unwrap_err();
             assert_eq!(refusal.number(), Some(number));
-            let known = number <= 16 || [22, 23].contains(&number);
+            let known = number <= 17 || [22, 23].contains(&number);
             assert_eq!(refusal == Error::Unknown(number), !known);
         }
     }

@@ -59,7 +59,7 @@ pub(crate) fn doubled(room: usize) -> Option<usize> {
 ///
 /// `Store` owns its words, and grows where an edit needs more records than it has room for. `Store<&mut [u64]>` borrows them and stays as
 /// long as it is, and `Store<&[u64]>` can only be searched. A structure is built by a [ModelBuilder](crate::ModelBuilder) or a list
-/// ([Edits](crate::Edits)): single additions check the whole store each time.
+/// ([Edits](crate::Edits)), or read from PDB lines ([Store::read_pdb]): single additions check the whole store each time.
 ///
 /// ```
 /// use jubrelti::*;
@@ -124,7 +124,7 @@ impl<W: Words> Store<W> {
 }
 
 impl<W> Store<W> {
-    fn of(words: W) -> Self {
+    pub(crate) fn of(words: W) -> Self {
         Store { words, reading: Reading::default() }
     }
 }

@@ -152,6 +152,8 @@ fn numbers_and_sentences() {
         (14, Error::BadInsertionCode),
         (15, Error::BadConformer),
         (16, Error::BadAtomName),
+        (17, Error::BadText),
+        (17, Error::BadLine { line: 3 }),
         (22, Error::BadList),
         (23, Error::ShortAnswers),
         (99, Error::Unknown(99)),

@@ -13,6 +13,7 @@ ghost use Rattle.machine.specs.Text.{textOf};
 ghost use Rattle.machine.specs.Record.{finite, fieldsOf};
 ghost use Rattle.machine.specs.Program.{decimal, newline};
 ghost use Rattle.machine.specs.Lines.{atLeft, atRight, columnText, fitting, blanks, lineOf, dash, lastDigits, pointed, fixed, signed, chargeText, symbol, indent, nameColumns, valueColumns, elementColumns, atomColumns, modelColumns, endColumns};
+ghost use Rattle.machine.specs.LinesIn.{elementOf};
 ghost use Rattle.columns.specs.Put.{Put, Places, Adds, GoodAtom, lineAt, placeOf};
 ghost use Rattle.columns.specs.Cells as Cells;
 ghost use Rattle.columns.specs.Cells.{symbolColumns};
@@ -187,6 +188,38 @@ fn two_letters(element: u64) -> bool
     ensures { λ r. ⌜ r ≡ eqb (length (symbol element)) 2 ⌝ }
 {
     symbol_byte(element as usize * 2) != 32
+}
+
+// The element whose symbol has these bytes in its two columns, 0 where there is none.
+fn find_symbol(first: u8, second: u8) -> u64
+    ensures { λ r. ⌜ r ≡ elementOf (first ∷ second ∷ []) ⌝ }
+{
+    let mut i: usize = 0;
+    while i < 119 {
+        if (first == symbol_byte(i * 2)) & (second == symbol_byte(i * 2 + 1)) {
+            return i as u64;
+        } else {
+            i += 1;
+        }
+    }
+    0
+}
+
+// The same; carbon, nitrogen, oxygen, hydrogen and sulphur, which nearly all atoms are, aren't looked for.
+pub fn element_of(first: u8, second: u8) -> u64
+    ensures { λ r. ⌜ r ≡ elementOf (first ∷ second ∷ []) ⌝ }
+{
+    if first != 32 {
+        return find_symbol(first, second);
+    }
+    match second {
+        67 => 6,
+        78 => 7,
+        79 => 8,
+        72 => 1,
+        83 => 16,
+        _ => find_symbol(first, second),
+    }
 }
 
 fn put_symbol(line: &mut [u8; 81], at: usize, element: u64)

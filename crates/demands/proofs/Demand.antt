@@ -79,19 +79,22 @@ opened-length w a = go (goodLength (length w)) a
     go true h = refl
     go false h = absurd (false≢true h)
 
+pub opened-laid : (w : List ℕ) → goodLength (length w) ≡ true → openRun w .1 ≡ layOut (length w) []
+unfolding openRun
+opened-laid w g = rw g (open-empty (length w) g)
+
+pub empty-fits : (n : ℕ) → Fit n []
+empty-fits n = record { good = refl; room = omega arith }
+
 module _ (w : List ℕ) (calls : List Call) (opens : Accepted (openRun w)) where
   accepted : goodLength (length w) ≡ true
   accepted = opened-length w opens
 
   opened : openRun w .1 ≡ layOut (length w) []
-  unfolding openRun
-  opened = rw accepted (open-empty (length w) accepted)
-
-  empty-fits : Fit (length w) []
-  empty-fits = record { good = refl; room = omega arith }
+  opened = opened-laid w accepted
 
   all-steps : Steps (length w) [] calls
-  all-steps = steps (length w) [] calls accepted empty-fits
+  all-steps = steps (length w) [] calls accepted (empty-fits (length w))
 
   is-held : after w calls ≡ layOut (length w) (machine w calls)
   is-held = rw opened (all-steps .held)

@@ -10,6 +10,7 @@ ghost use Rattle.machine.specs.Edit as Calls;
 ghost use Rattle.machine.specs.Edit.{addition, storeStep};
 ghost use Rattle.machine.specs.Lookup.{lookupRun};
 ghost use Rattle.machine.specs.Write.{writeRun};
+ghost use Rattle.machine.specs.Read.{readRun};
 ghost use Rattle.copies.specs.Copy.{copyRun};
 ghost use Rattle.edits.specs.Apply.{ran, applyRun};
 ghost use Rattle.exports.specs.Version.{version};
@@ -21,12 +22,12 @@ use machine::NewAtom;
 use machine::WriteAnswer;
 use store::Checked;
 
-// 0.9.0: the millions are the major number, the thousands the minor one.
+// 0.10.0: the millions are the major number, the thousands the minor one.
 #[no_mangle]
 pub extern "C" fn jubrelti_version() -> u64
     ensures { λ r. ⌜ r ≡ version ⌝ }
 {
-    9_000
+    10_000
 }
 
 // 0 for a good store, else the refusal's number.
@@ -144,6 +145,14 @@ pub extern "C" fn jubrelti_write_pdb(store: &[u64], out: &mut [u8]) -> WriteAnsw
 {
     let written = structs::pdb::write_pdb(store, out);
     answers::of_written(written)
+}
+
+#[no_mangle]
+pub extern "C" fn jubrelti_read_pdb(text: &[u8], store: &mut [u64]) -> u64
+    ensures { λ r. ⌜ ((r ∷ []), now (store .exit)) ≡ readRun (now (text .entry)) (now (store .entry)) ⌝ }
+{
+    let opened = structs::pdb::read_pdb(text, store);
+    answers::of_opened(opened)
 }
 
 // ---- the edits

@@ -5,12 +5,14 @@ use mathlib.Core.Bool.{Bool, true, false, cond, not, _&&_, false≢true}
 use mathlib.Core.List.{List, [], _∷_, _++_, reverse, map, reverse-append, reverse-reverse}
 use native.Mathlib.Numerals.{add-one}
 use native.Mathlib.Omega.{arith}
-use lib.ListN.{length, take, drop, getD, length-drop, drop-of-length-le, List·getD-eq-default, List·getD-map, length-map}
+use native.Mathlib.Nat.{add-zero}
+use lib.ListN.{length, take, drop, getD, length-reverseAux, length-drop, drop-of-length-le, List·getD-eq-default, List·getD-map, length-map}
 use lib.Seq.{drop-cons, take-suc, take-length, length-take-le}
 use lib.Dec.{ltb}
 use borrow.Author.Tests.{le-leb, lt-leb, lt-ltb}
 use Rattle.machine.specs.Lists.{all, isEmpty}
 use Rattle.machine.specs.Text.{packed, pack, plain, blank, toUpper, trimStart, trim, fit, chainId, uppercaseOr, atomName, byFlag}
+use Rattle.machine.specs.LinesIn.{word}
 use Rattle.machine.specs.declared.Prepared.{Prepared}
 use Rattle.machine.specs.declared.Prepared.the-variants.{Stored, Absent, Bad}
 use Rattle.laws.specs.Packing.{packed-none}
@@ -239,3 +241,65 @@ pub flag-bad : (flag : ℕ) (p : Prepared) → 1 < flag → Bad ≡ byFlag flag 
 flag-bad zero p h = absurd (omega arith)
 flag-bad (suc zero) p h = absurd (omega arith)
 flag-bad (suc (suc n)) p h = refl
+
+-- ---- short texts
+
+pub pack-none : (t : List ℕ) → length t < 1 → 0 ≡ pack t
+unfolding packed
+pack-none [] h = refl
+pack-none (a ∷ t) h = absurd (omega arith)
+
+pub pack-one : (t : List ℕ) (a : ℕ) → a ≡ getD t 0 0 → 1 ≤ length t → length t < 2 → a * 72057594037927936 ≡ pack t
+unfolding packed
+pack-one [] a e1 l h = absurd (omega arith)
+pack-one (x ∷ []) a e1 l h = omega arith
+pack-one (x ∷ y ∷ t) a e1 l h = absurd (omega arith)
+
+pub pack-two : (t : List ℕ) (a b : ℕ) → a ≡ getD t 0 0 → b ≡ getD t 1 0 → 2 ≤ length t → length t < 3 → a * 72057594037927936 + b * 281474976710656 ≡ pack t
+unfolding packed
+pack-two [] a b e1 e2 l h = absurd (omega arith)
+pack-two (x ∷ []) a b e1 e2 l h = absurd (omega arith)
+pack-two (x ∷ y ∷ []) a b e1 e2 l h = omega arith
+pack-two (x ∷ y ∷ z ∷ t) a b e1 e2 l h = absurd (omega arith)
+
+pub pack-three : (t : List ℕ) (a b c : ℕ) → a ≡ getD t 0 0 → b ≡ getD t 1 0 → c ≡ getD t 2 0 → 3 ≤ length t → length t < 4 → a * 72057594037927936 + b * 281474976710656 + c * 1099511627776 ≡ pack t
+unfolding packed
+pack-three [] a b c e1 e2 e3 l h = absurd (omega arith)
+pack-three (x ∷ []) a b c e1 e2 e3 l h = absurd (omega arith)
+pack-three (x ∷ y ∷ []) a b c e1 e2 e3 l h = absurd (omega arith)
+pack-three (x ∷ y ∷ z ∷ []) a b c e1 e2 e3 l h = omega arith
+pack-three (x ∷ y ∷ z ∷ u ∷ t) a b c e1 e2 e3 l h = absurd (omega arith)
+
+pub pack-four : (t : List ℕ) (a b c d : ℕ) → a ≡ getD t 0 0 → b ≡ getD t 1 0 → c ≡ getD t 2 0 → d ≡ getD t 3 0 → length t ≤ 4 → 4 ≤ length t → a * 72057594037927936 + b * 281474976710656 + c * 1099511627776 + d * 4294967296 ≡ pack t
+unfolding packed
+pack-four [] a b c d e1 e2 e3 e4 l h = absurd (omega arith)
+pack-four (x ∷ []) a b c d e1 e2 e3 e4 l h = absurd (omega arith)
+pack-four (x ∷ y ∷ []) a b c d e1 e2 e3 e4 l h = absurd (omega arith)
+pack-four (x ∷ y ∷ z ∷ []) a b c d e1 e2 e3 e4 l h = absurd (omega arith)
+pack-four (x ∷ y ∷ z ∷ u ∷ []) a b c d e1 e2 e3 e4 l h = omega arith
+pack-four (x ∷ y ∷ z ∷ u ∷ v ∷ t) a b c d e1 e2 e3 e4 l h = absurd (omega arith)
+
+-- trimming makes no text longer
+after-start : (t : List ℕ) → length (trimStart t) ≤ length t
+unfolding trimStart
+after-start [] = omega arith
+after-start (b ∷ t) = go (blank b) (after-start t)
+  where
+    go : (x : Bool) → length (trimStart t) ≤ length t → length (cond x (trimStart t) (b ∷ t)) ≤ length (b ∷ t)
+    go true h = omega arith
+    go false h = omega arith
+
+pub trim-short : (t u : List ℕ) → u ≡ trim t → length t ≤ 4 → length u ≤ 4
+unfolding trim
+trim-short t u e h =
+    let p = after-start t in
+    let q = after-start (reverse (trimStart t)) in
+    let r = length-reverseAux (trimStart t) [] in
+    let s = length-reverseAux (trimStart (reverse (trimStart t))) [] in
+    let z : length u ≡ length (reverse (trimStart (reverse (trimStart t)))) = ap length e in
+    omega arith
+
+-- a word of which no rule is asked
+pub word-is : (t u : List ℕ) (r : ℕ) → u ≡ trim t → r ≡ pack u → r ≡ word t
+unfolding word
+word-is t u r e p = p ∙ ap pack e

@@ -6,6 +6,7 @@ ghost use Prim.Native.Nat.{_≤_, _<_};
 ghost use lib.ListN.{length, take, drop, getD};
 ghost use Rattle.machine.specs.Lists.{all};
 ghost use Rattle.machine.specs.Text.{plain, blank, toUpper, trimStart, trim, pack, fit, chainId, uppercaseOr, insertionCode, alternativeLocation, atomName, byFlag};
+ghost use Rattle.machine.specs.LinesIn.{word};
 ghost use Rattle.helper.specs.Text.{trimEnd, upperIf};
 ghost use Rattle.machine.specs.declared.Prepared.the-variants.{Bad};
 use machine::Prepared;
@@ -121,6 +122,45 @@ pub fn pack_text(text: &[u8], up: bool) -> u64
         + digit(text, 5, up) * 0x1_0000
         + digit(text, 6, up) * 0x100
         + digit(text, 7, up)
+}
+
+fn number(b: u8) -> u64
+    ensures { λ r. ⌜ (r ≡ b) × (r < 256) ⌝ }
+{
+    b as u64
+}
+
+// A text of at most four bytes as a word: what is short is packed in less time than by `pack_text`.
+fn pack_short(text: &[u8]) -> u64
+    requires { ⌜ length (now text) ≤ 4 ⌝ }
+    ensures { λ r. ⌜ r ≡ pack (now (text .entry)) ⌝ }
+{
+    let n = text.len();
+    if n < 1 {
+        return 0;
+    }
+    let one = number(text[0]) * 0x100_0000_0000_0000;
+    if n < 2 {
+        return one;
+    }
+    let two = one + number(text[1]) * 0x1_0000_0000_0000;
+    if n < 3 {
+        return two;
+    }
+    let three = two + number(text[2]) * 0x100_0000_0000;
+    if n < 4 {
+        return three;
+    }
+    three + number(text[3]) * 0x1_0000_0000
+}
+
+// A text of at most four bytes, without the blanks at both its ends, as a word; no rule is asked.
+pub fn trimmed_word(text: &[u8]) -> u64
+    requires { ⌜ length (now text) ≤ 4 ⌝ }
+    ensures { λ r. ⌜ r ≡ word (now (text .entry)) ⌝ }
+{
+    let t = trimmed(text);
+    pack_short(t)
 }
 
 // ---- preparing

@@ -9,13 +9,13 @@ use native.Mathlib.Omega.{arith}
 use lib.ListN.{length, length-append}
 use lib.Dec.{eqb}
 use borrow.Author.Tests.{ne-eqb}
-use Rattle.machine.specs.Lists.{all, sum, concatMap}
+use Rattle.machine.specs.Lists.{sum, concatMap}
 use Rattle.machine.specs.Record.{Chain, Residue, Conformer, Atom, Words, words, kind, fieldsOf}
 use Rattle.machine.specs.Store.{Branch, Machine, flat, records, atomCount, stored}
-use Rattle.machine.specs.Lines.{Column, columnText, fitting, lineOf, AtomLine, nameColumns, placeColumns, valueColumns, elementColumns, atomColumns, modelColumns, endColumns, Entry, entryLines, entryOf, linesOf, writable, machineText}
-use Rattle.laws.specs.Lists.{and-both, All, All-append, sum-append, sum-concatMap}
+use Rattle.machine.specs.Lines.{Column, AtomLine, atomColumns, modelColumns, endColumns, entryLines, entryOf, linesOf, writable, machineText}
+use Rattle.laws.specs.Lists.{sum-append, sum-concatMap}
 use Rattle.laws.specs.Grouped.{words-kind}
-use Rattle.laws.specs.Columns.{width, columns-length}
+use Rattle.laws.specs.Columns.{lines-length, entries-eighty}
 
 -- ---- the pass
 
@@ -123,30 +123,6 @@ pub lines-flat : (p : Parents) (m : Machine) → flatLines false p (records m) �
 lines-flat p m = models-pass false p m
 
 -- ---- the text's length
-
--- "every line has 80 columns and a newline"
-abbrev Eighty : List Column → Type 0
-Eighty cs = sum width cs ≡ 80
-
-line-length : (cs : List Column) → Eighty cs → all fitting cs ≡ true → length (lineOf cs) ≡ 81
-line-length cs e h = omega (arith, length-append (concatMap columnText cs) (10 ∷ []), columns-length cs h)
-
-lines-length : (ls : List (List Column)) → All Eighty ls → all (all fitting) ls ≡ true → length (concatMap lineOf ls) ≡ 81 * length ls
-lines-length [] e h = refl
-lines-length (cs ∷ ls) e h =
-    let b = and-both (all fitting cs) (all (all fitting) ls) h in
-    omega (arith, length-append (lineOf cs) (concatMap lineOf ls), line-length cs (e .0) (b .0), lines-length ls (e .1) (b .1))
-
-atoms-eighty : (ls : List AtomLine) → All Eighty (map atomColumns ls)
-unfolding atomColumns nameColumns placeColumns valueColumns elementColumns
-atoms-eighty [] = tt
-atoms-eighty (l ∷ ls) = (refl, atoms-eighty ls)
-
-entries-eighty : (es : List Entry) → All Eighty (linesOf es)
-unfolding entryLines modelColumns
-entries-eighty [] = tt
-entries-eighty (e ∷ es) =
-    All-append Eighty (entryLines e) (linesOf es) (refl, All-append Eighty (map atomColumns (e .atoms)) (endColumns ∷ []) (atoms-eighty (e .atoms)) (refl, tt)) (entries-eighty es)
 
 -- how many lines a record makes: a model makes MODEL and ENDMDL
 unfoldable pub lineCount : Words → ℕ

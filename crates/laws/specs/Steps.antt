@@ -16,7 +16,7 @@ use Rattle.machine.specs.Store.{Branch, Machine, records, flat, stored, capacit
 use Rattle.machine.specs.Query.{readTree}
 use Rattle.machine.specs.Edit.{Addition, Call, AddModel, AddAtom, RemoveChain, RemoveResidue, RemoveConformer, RemoveAtom, RemoveChainById, RemoveResidueById, RemoveConformerById, RemoveAtomBySerialNumber, RemoveAtomsBy, RemoveEmpty, JoinModels, JoinChains, JoinResidues, JoinConformers, SetElement, Change, up, branchAt, replaceAt, fits, addModel, accept, prepare, newAtom, Which, first, last, pick, putIn, upsert, intoChains, addPrepared, addAtom, removeAt, root, withChildren, without, removeFirst, withFound, keepAtoms, removeAtomsBy, nonEmpty, removeEmpty, joinAt, withMachine, withFields, refielded, setAt, withElement, fillIn, machineStep, answer, next}
 use Rattle.machine.specs.declared.Refusal.{Refusal}
-use Rattle.machine.specs.declared.Refusal.the-variants.{BadLength, BrokenLayout, TreeShape, TreeNode, NoPosition, BadIdentifier, BadValue, NoCapacity, JoinWithItself, ShortOutput, BadFile, TooWide, ShortText, BadInsertionCode, BadConformer, BadAtomName, BadList, ShortAnswers}
+use Rattle.machine.specs.declared.Refusal.the-variants.{BadLength, BrokenLayout, TreeShape, TreeNode, NoPosition, BadIdentifier, BadValue, NoCapacity, JoinWithItself, ShortOutput, BadFile, TooWide, ShortText, BadInsertionCode, BadConformer, BadAtomName, BadText, BadList, ShortAnswers}
 use Rattle.machine.specs.declared.Name.{Name}
 use Rattle.machine.specs.declared.Name.the-variants.{ChainId, InsertionCode, ConformerName, AlternativeLocation, AtomName}
 use Rattle.machine.specs.declared.Prepared.{Prepared}
@@ -455,6 +455,7 @@ refusal-digits ShortText = refl
 refusal-digits BadInsertionCode = refl
 refusal-digits BadConformer = refl
 refusal-digits BadAtomName = refl
+refusal-digits BadText = refl
 refusal-digits BadList = refl
 refusal-digits ShortAnswers = refl
 

@@ -13,7 +13,10 @@ pub mod Program
 pub mod Rounding
 pub mod Lines
 pub mod Write
+pub mod LinesIn
+pub mod Read
 pub mod Demand
 pub mod Cases
 pub mod Examples
 pub mod LineExamples
+pub mod ReadExamples

@@ -1,8 +1,9 @@
--- Change requests §1, "PDB lines out", and §5, "Halves to even in written numbers": f64 values rounded to decimals. Assumes nothing.
+-- Change requests §1, "PDB lines out", and §5, "Halves to even in written numbers": f64 values rounded to decimals; and §9, "PDB lines in": decimals
+-- as f64 values. Assumes nothing.
 use Prim.Native.Nat.{ℕ, suc, _+_, _*_, _/_, _%_, _^_}
-use mathlib.Core.Bool.{cond}
+use mathlib.Core.Bool.{Bool, cond}
 use lib.Dec.{ltb}
-use lib.Ieee.{Float, nan, inf, fin, binary64, up, down, ofBits}
+use lib.Ieee.{Float, nan, inf, fin, binary64, up, down, ofBits, toBits, round}
 
 -- "A binary value exactly halfway goes to the even last digit": the even one of q and q + 1
 abbrev pub atHalf : ℕ → ℕ
@@ -24,3 +25,8 @@ inUnits unit (fin s m e) = nearestWhole (m * up e * unit) (down e)
 -- "for any count of decimals": an f64, given by its bits, to d of them is this many times 10 ^ -d, its sign aside
 abbrev pub rounded : ℕ → ℕ → ℕ
 rounded d b = inUnits (10 ^ d) (ofBits binary64 b)
+
+-- Change request §9, "Decimals become the nearest f64, halves to even": that of n times 10 ^ -d, with a minus where s is true. `round` is the rounding of a
+-- fraction by which the logic's IEEE 754 defines every operation; halfway it takes the even one
+abbrev pub nearestBits : ℕ → Bool → ℕ → ℕ
+nearestBits d s n = toBits binary64 (round binary64 s n (10 ^ d))

@@ -182,6 +182,7 @@ pub enum Refusal {
     BadInsertionCode,
     BadConformer,
     BadAtomName,
+    BadText,
     BadList,
     ShortAnswers,
 }

@@ -1,19 +1,21 @@
 -- What each return of `src/` needs. Assumes nothing.
 use Prim.Native.Nat.{ℕ, zero, suc, _+_, _-_, _*_, _/_, _%_, _^_, _≤_, _<_, min}
 use mathlib.Core.Path.{_≡_, refl, sym, ap, _∙_, subst}
-use mathlib.Core.Bool.{Bool, true, cond}
+use mathlib.Core.Bool.{Bool, true, false, not, cond}
 use native.Mathlib.Nat.{le-trans, le-of-eq, lt-of-le-of-lt, le-of-lt, mul-left-comm, mul-comm, mul-assoc, mul-one, one-mul, mul-right-comm, mul-le-mul, div-le-self, mod-le, le-div-iff-mul-le}
 use native.Mathlib.Omega.{arith}
 use native.Mathlib.Numerals.{add-one}
-use lib.Dec.{lit≤, lit<, ltb, leb, eqb}
+use lib.Dec.{T, le→leb, lit≤, lit<, ltb, leb, eqb}
 use lib.Pow.{pow-add, pow-pos, pow-mono, shl-exact}
-use lib.Ieee.{nan, inf, binary64, ofBits, odd, ofFields}
+use lib.IntN.{pos}
+use lib.Ieee.{Float, nan, inf, binary64, ofBits, toBits, odd, ofFields, round, div, neg, ofInt, inFloat, isNan}
 use lib.Ieee.Exact.{HasValue, odd-sign}
 use borrow.Author.Tests.{lt-ltb, le-ltb, ne-eqb}
 use Rattle.machine.specs.Record.{finite}
 use Rattle.machine.specs.Rounding.{nearestWhole, inUnits}
 use Rattle.laws.specs.Floats.{finite-field}
 use Rattle.laws.specs.Rounding.{nearest-once, nearest-same, nearest-none, quotient-below, units-of-value}
+use Rattle.lines.specs.Nearest.{quotient, neg-round, no-nan}
 
 -- ---- power
 
@@ -125,3 +127,31 @@ product-fits t unit U =
     let l : 4503599627370496 + t % 4503599627370496 ≤ 9007199254740992 = omega arith in
     let m : (4503599627370496 + t % 4503599627370496) * unit ≤ 9007199254740992 * 1000 = mul-le-mul l U in
     omega arith
+
+-- ---- nearest_bits
+
+abbrev divided : ℕ → ℕ → Float
+divided n u = div binary64 (ofInt binary64 (pos n)) (ofInt binary64 (pos u))
+
+pub in-float : (n : ℕ) → n < 4503599627370496 → T (inFloat binary64 (pos n))
+unfolding inFloat
+in-float n h = le→leb n 9007199254740992 (omega arith)
+
+module _ (n u : ℕ) (h : n < 4503599627370496) (l : 1 ≤ u) (k : u ≤ 1000) where
+  is : divided n u ≡ round binary64 false n u
+  is = quotient n u h l (omega arith)
+
+  is-neg : neg (divided n u) ≡ round binary64 true n u
+  is-neg = ap neg is ∙ neg-round n u
+
+  pub bits-of : (s : Bool) → s ≡ false → toBits binary64 (divided n u) ≡ toBits binary64 (round binary64 s n u)
+  bits-of s e = ap (toBits binary64) (is ∙ ap (λ (t : Bool). round binary64 t n u) (sym e))
+
+  pub bits-of-neg : (s : Bool) → s ≡ true → toBits binary64 (neg (divided n u)) ≡ toBits binary64 (round binary64 s n u)
+  bits-of-neg s e = ap (toBits binary64) (is-neg ∙ ap (λ (t : Bool). round binary64 t n u) (sym e))
+
+  pub some-bits : T (not (isNan (divided n u)))
+  some-bits = subst (λ (x : Float). T (not (isNan x))) (sym is) (no-nan false n u h l (omega arith))
+
+  pub some-bits-neg : T (not (isNan (neg (divided n u))))
+  some-bits-neg = subst (λ (x : Float). T (not (isNan x))) (sym is-neg) (no-nan true n u h l (omega arith))

@@ -1,8 +1,8 @@
-// f64 values, given by their bits, rounded to a whole number of units.
+// f64 values, given by their bits, rounded to a whole number of units, and the f64 values nearest to such numbers.
 ghost use mathlib.Core.Path.{_≡_};
 ghost use mathlib.Core.Bool.{true};
 ghost use Prim.Native.Nat.{_^_, _≤_, _<_, min};
-ghost use lib.Ieee.{binary64, ofBits};
+ghost use lib.Ieee.{binary64, round, ofBits, toBits};
 ghost use Rattle.machine.specs.Record.{finite};
 ghost use Rattle.machine.specs.Rounding.{nearestWhole, inUnits};
 
@@ -45,4 +45,16 @@ pub fn in_units(bits: u64, unit: u64) -> u64
     let digits = 0x0010_0000_0000_0000 + magnitude % 0x0010_0000_0000_0000;
     let n = nearest_whole(digits * unit, 1075 - field);
     if n < WIDE { n } else { WIDE }
+}
+
+// The bits of the f64 nearest to n / unit, with a minus where it is negative: both numbers are exact as f64 values, and one division rounds.
+pub fn nearest_bits(negative: bool, n: u64, unit: u64) -> u64
+    requires { ⌜ (n < 0x0010_0000_0000_0000) × (1 ≤ unit) × (unit ≤ 1000) ⌝ }
+    ensures { λ r. ⌜ r ≡ toBits binary64 (round binary64 negative n unit) ⌝ }
+{
+    let size = (n as f64) / (unit as f64);
+    if negative {
+        return f64::to_bits(-size);
+    }
+    f64::to_bits(size)
 }

@@ -23,7 +23,7 @@ good w h e = good-store w (sym e ∙ h) .read
 
 -- ---- the store stays good
 
-laid-good : (n : ℕ) (m : Machine) → goodLength n ≡ true → Fit n m → Good (layOut n m)
+pub laid-good : (n : ℕ) (m : Machine) → goodLength n ≡ true → Fit n m → Good (layOut n m)
 laid-good n m g f =
     rw (recordsOf-layOut n m (fit-words n m g f), group-flats 4 (omega arith) m) (read-layOut n m g f)
 

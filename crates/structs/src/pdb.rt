@@ -7,6 +7,7 @@ ghost use Rattle.machine.specs.Edit.{storeStep, AddModel};
 ghost use Rattle.machine.specs.Find.{findRun};
 ghost use Rattle.machine.specs.Lookup.{lookupRun};
 ghost use Rattle.machine.specs.Write.{writeRun};
+ghost use Rattle.machine.specs.Read.{readRun};
 use machine::Edited;
 use machine::Found;
 use machine::LookedUp;
@@ -55,4 +56,11 @@ pub fn write_pdb(store: &[u64], out: &mut [u8]) -> Written
     ensures { λ r. ⌜ (writtenNumbers r, now (out .exit)) ≡ writeRun (now (store .entry)) (now (out .entry)) ⌝ }
 {
     writer::write(store, out)
+}
+
+// PDB lines into a store, which is opened and filled: change request §9.
+pub fn read_pdb(text: &[u8], store: &mut [u64]) -> Opened
+    ensures { λ r. ⌜ (openedNumbers r, now (store .exit)) ≡ readRun (now (text .entry)) (now (store .entry)) ⌝ }
+{
+    reader::read(text, store)
 }

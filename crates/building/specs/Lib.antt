@@ -1,0 +1,10 @@
+pub mod Lacks
+pub mod Prepared
+pub mod Picks
+pub mod Build
+pub mod Count
+pub mod Run
+pub mod Bounds
+pub mod Rebuild
+pub mod Alike
+pub mod Chains

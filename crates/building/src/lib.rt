@@ -1,0 +1,1 @@
+// Laws about what the additions of a text build (change request §9), in specs/.

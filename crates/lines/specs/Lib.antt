@@ -1,0 +1,9 @@
+pub mod Taken
+pub mod Nearest
+pub mod Figures
+pub mod Fields
+pub mod Text
+pub mod Exactly
+pub mod Small
+pub mod Scan
+pub mod Numbered
