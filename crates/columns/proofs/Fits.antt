@@ -1,27 +1,26 @@
 -- The tests of width are the definition's. Assumes nothing.
-use Prim.Native.Nat.{ℕ, _*_, _%_, _^_, _≤_, _<_, min}
+use Prim.Native.Nat.{ℕ, _*_, _%_, _^_, _<_}
 use mathlib.Core.Path.{_≡_, refl, sym, ap, _∙_}
 use mathlib.Core.Bool.{Bool, true, false, _&&_, cond}
 use mathlib.Core.List.{List, _++_}
-use native.Mathlib.Omega.{arith}
 use lib.Dec.{leb, ltb, eqb, lit≤, lit<}
-use lib.Ieee.{binary64, ofBits}
 use lib.IntN.{natAbs}
 use lib.ListN.{length, getD}
 use mir.Syntax.{w64}
 use mir.Val.{toZ}
-use borrow.Author.Tests.{lt-ltb, le-ltb, ltb-true, ltb-false}
 use Rattle.machine.specs.Lists.{all, bytes}
 use Rattle.machine.specs.Text.{textOf}
 use Rattle.machine.specs.Record.{Words, fieldsOf}
 use Rattle.machine.specs.Program.{decimal}
-use Rattle.machine.specs.Rounding.{inUnits, rounded}
-use Rattle.machine.specs.Lines.{fitting, signed, fixed, chargeText, blanks, indent, nameColumns, placeColumns, valueColumns, elementColumns, atomColumns, modelColumns}
-use Rattle.laws.specs.Digits.{decimal-width, dashed-width, fixed-width, signed-parts, charge-width}
+use Rattle.machine.specs.Lines.{fitting, dash, pointed, signed, chargeText, blanks, indent, nameColumns, placeColumns, elementColumns, modelColumns}
+use Rattle.laws.specs.Digits.{decimal-width, dashed-width, signed-parts, charge-width}
 use Rattle.laws.specs.Width.{word-width, name-width, symbol-width}
-use Rattle.columns.specs.Put.{lineAt, placeOf}
+use Rattle.columns.specs.Put.{placeOf, decimalColumns, columnsAt}
 use Rattle.columns.specs.declared.Above.{Above}
-use Rattle.columns.proofs.Parts.{parts}
+use Rattle.columns.specs.declared.Decimal.{Decimal}
+use Rattle.columns.specs.declared.Decimals.{Decimals}
+use Rattle.columns.proofs.Numbers as numbers
+use Rattle.columns.proofs.Parts.{fits-parts}
 
 and-yes : (b : Bool) → b && true ≡ b
 and-yes true = refl
@@ -39,44 +38,26 @@ within-plus s n limit e = ap (λ (t : Bool). cond t (ltb n limit) (ltb n (limit 
 
 -- ---- values
 
--- a test below the bound doesn't see the bound
-ltb-min : (m k : ℕ) → k ≤ 10000000 → ltb (min m 10000000) k ≡ ltb m k
-ltb-min m k h = go (ltb m k) refl
+group-values : (x y z o f : Bool) → x && y && z && o && f ≡ x && (y && (z && (o && (f && true))))
+group-values x y z o f = simp (and-assoc, and-yes)
+
+-- a decimal below a limit that a minus makes ten times less
+abbrev below : Decimal → ℕ → Bool
+below n limit = cond (n .minus) (ltb (n .size) limit) (ltb (n .size) (limit * 10))
+
+pub decimals : (ds : Decimals) (x y z o f : Bool) → x ≡ cond (ds .x .minus) (ltb (ds .x .size) 1000000) (ltb (ds .x .size) (1000000 * 10)) → y ≡ cond (ds .y .minus) (ltb (ds .y .size) 1000000) (ltb (ds .y .size) (1000000 * 10))
+    → z ≡ cond (ds .z .minus) (ltb (ds .z .size) 1000000) (ltb (ds .z .size) (1000000 * 10)) → o ≡ cond (ds .occupancy .minus) (ltb (ds .occupancy .size) 10000) (ltb (ds .occupancy .size) (10000 * 10))
+    → f ≡ cond (ds .«b_factor» .minus) (ltb (ds .«b_factor» .size) 10000) (ltb (ds .«b_factor» .size) (10000 * 10)) → x && y && z && o && f ≡ all fitting (decimalColumns ds)
+unfolding decimalColumns
+decimals ds x y z o f a b c d e =
+    group-values x y z o f
+    ∙ (λ i. (a ∙ three (ds .x)) i && ((b ∙ three (ds .y)) i && ((c ∙ three (ds .z)) i && ((d ∙ two (ds .occupancy)) i && ((e ∙ two (ds .«b_factor»)) i && true)))))
   where
-    go : (t : Bool) → ltb m k ≡ t → ltb (min m 10000000) k ≡ t
-    go true e = let l = ltb-true m k e in lt-ltb (min m 10000000) k (omega arith)
-    go false e = let l = ltb-false m k e in le-ltb (min m 10000000) k (omega arith)
+    three : (n : Decimal) → below n 1000000 ≡ leb (length (dash (n .minus) ++ pointed 3 (n .size))) 8
+    three n = sym (numbers.decimal-width (n .minus) 3 2 (n .size) (lit< tt))
 
-bounded : (m b : ℕ) (limit : ℕ) → limit * 10 ≤ 10000000 → cond (leb (2 ^ 63) b && ltb 0 (min m 10000000)) (ltb (min m 10000000) limit) (ltb (min m 10000000) (limit * 10))
-    ≡ cond (leb (2 ^ 63) b && ltb 0 m) (ltb m limit) (ltb m (limit * 10))
-bounded m b limit h =
-    let some : ltb 0 (min m 10000000) ≡ ltb 0 m = positive (ltb 0 m) refl in
-    λ i. cond (leb (2 ^ 63) b && some i) (ltb-min m limit (omega arith) i) (ltb-min m (limit * 10) h i)
-  where
-    positive : (t : Bool) → ltb 0 m ≡ t → ltb 0 (min m 10000000) ≡ t
-    positive true e = let l = ltb-true 0 m e in lt-ltb 0 (min m 10000000) (omega arith)
-    positive false e = let l = ltb-false 0 m e in le-ltb 0 (min m 10000000) (omega arith)
-
-pub coordinate : (b n : ℕ) (s r : Bool) → n ≡ min (inUnits 1000 (ofBits binary64 b)) 10000000 → s ≡ leb (2 ^ 63) b && ltb 0 n → r ≡ cond s (ltb n 1000000) (ltb n (1000000 * 10)) → r ≡ leb (length (fixed 3 b)) 8
-coordinate b n s r e f g =
-    g ∙ ap (λ (t : Bool). cond t (ltb n 1000000) (ltb n 10000000)) f ∙ ap (λ (m : ℕ). cond (leb (2 ^ 63) b && ltb 0 m) (ltb m 1000000) (ltb m 10000000)) e
-    ∙ bounded (rounded 3 b) b 1000000 (lit≤ tt)
-    ∙ sym (fixed-width 3 2 b (lit< tt))
-
-pub factor : (b n : ℕ) (s r : Bool) → n ≡ min (inUnits 100 (ofBits binary64 b)) 10000000 → s ≡ leb (2 ^ 63) b && ltb 0 n → r ≡ cond s (ltb n 10000) (ltb n (10000 * 10)) → r ≡ leb (length (fixed 2 b)) 6
-factor b n s r e f g =
-    g ∙ ap (λ (t : Bool). cond t (ltb n 10000) (ltb n 100000)) f ∙ ap (λ (m : ℕ). cond (leb (2 ^ 63) b && ltb 0 m) (ltb m 10000) (ltb m 100000)) e
-    ∙ bounded (rounded 2 b) b 10000 (lit≤ tt)
-    ∙ sym (fixed-width 2 1 b (lit< tt))
-
-pub values : (w : Words) (x y z o f : Bool) → x ≡ leb (length (fixed 3 (getD w 3 0))) 8 → y ≡ leb (length (fixed 3 (getD w 4 0))) 8 → z ≡ leb (length (fixed 3 (getD w 5 0))) 8 → o ≡ leb (length (fixed 2 (getD w 6 0))) 6
-    → f ≡ leb (length (fixed 2 (getD w 7 0))) 6 → x && y && z && o && f ≡ all fitting (valueColumns (fieldsOf 0 w))
-unfolding valueColumns fieldsOf
-values w x y z o f a b c d e =
-    group x y z o f ∙ (λ i. a i && (b i && (c i && (d i && (e i && true)))))
-  where
-    group : (x y z o f : Bool) → x && y && z && o && f ≡ x && (y && (z && (o && (f && true))))
-    group x y z o f = simp (and-assoc, and-yes)
+    two : (n : Decimal) → below n 10000 ≡ leb (length (dash (n .minus) ++ pointed 2 (n .size))) 6
+    two n = sym (numbers.decimal-width (n .minus) 2 1 (n .size) (lit< tt))
 
 -- ---- the other parts
 
@@ -116,10 +97,9 @@ element w n e =
     ap (λ (z : ℕ). ltb z 10) e ∙ sym (charge-width (toZ w64 (getD w 9 0))) ∙ sym (and-yes (leb (length (chargeText (toZ w64 (getD w 9 0)))) 2))
     ∙ ap (λ (t : Bool). t && (leb (length (chargeText (toZ w64 (getD w 9 0)))) 2 && true)) (sym (symbol-width (getD w 8 0)))
 
-pub atom : (u : Above) (w : Words) (a b c d : Bool) → a ≡ all fitting (nameColumns (fieldsOf 0 w)) → b ≡ all fitting (placeOf u) → c ≡ all fitting (valueColumns (fieldsOf 0 w)) → d ≡ all fitting (elementColumns (fieldsOf 0 w))
-    → a && b && c && d ≡ all fitting (atomColumns (lineAt u w))
-atom u w a b c d e f g h =
-    and-assoc (a && b) c d ∙ and-assoc a b (c && d) ∙ (λ i. e i && (f i && (g i && h i))) ∙ sym (parts u w)
+pub line : (u : Above) (w : Words) (ds : Decimals) (a b c d : Bool) → a ≡ all fitting (nameColumns (fieldsOf 0 w)) → b ≡ all fitting (placeOf u) → c ≡ all fitting (decimalColumns ds) → d ≡ all fitting (elementColumns (fieldsOf 0 w))
+    → a && b && c && d ≡ all fitting (columnsAt u w ds)
+line u w ds a b c d e f g h = and-assoc (a && b) c d ∙ and-assoc a b (c && d) ∙ (λ i. e i && (f i && (g i && h i))) ∙ sym (fits-parts u w ds)
 
 pub model : (n : ℕ) → ltb n 10000 ≡ all fitting (modelColumns (record { serial = n }))
 unfolding modelColumns

@@ -3,20 +3,21 @@ use Prim.Native.Nat.{ℕ, zero, suc, _+_, _-_, _*_, _/_, _%_, _^_, _≤_, _<_, m
 use mathlib.Core.Path.{_≡_, refl, sym, ap, _∙_, subst}
 use mathlib.Core.Bool.{Bool, true, false, _&&_, _||_, cond}
 use mathlib.Core.List.{List, [], _∷_, _++_, append-assoc}
-use native.Mathlib.Nat.{one-le-pow, zero-lt-suc, div-lt-iff-lt-mul, pow-le-pow-right, mul-le-mul-right}
+use native.Mathlib.Nat.{one-le-pow, zero-lt-suc, div-lt-iff-lt-mul, le-div-iff-mul-le, lt-of-lt-of-le}
 use native.Mathlib.Omega.{arith}
 use lib.ListN.{length, set, length-set, length-append}
-use lib.Dec.{leb, ltb, lit≤}
+use lib.Dec.{leb, ltb}
 use lib.Ieee.{binary64, ofBits}
-use borrow.Author.Tests.{ltb-true, lt-ltb, le-ltb, le-leb}
+use borrow.Author.Tests.{leb-true, leb-false, ltb-true, ltb-false, lt-ltb, le-ltb, le-leb, lt-leb}
 use Rattle.machine.specs.Program.{decimal}
 use Rattle.machine.specs.Rounding.{inUnits, rounded}
 use Rattle.machine.specs.Lines.{atRight, columnText, dash, lastDigits, pointed, negative, fixed}
-use Rattle.laws.specs.Digits.{length-last, digits-within, fixed-width}
+use Rattle.laws.specs.Digits.{length-last, digits-within, dashed-width, fixed-width}
 use Rattle.laws.specs.Columns.{column-length}
 use Rattle.moves.specs.Over.{over}
 use Rattle.moves.proofs.Laws.{over-none, over-cons, over-under, over-over}
-use Rattle.columns.specs.Put.{Put, Places}
+use Rattle.columns.specs.Put.{Put, decimalText, decimalOf}
+use Rattle.columns.specs.declared.Decimal.{Decimal}
 use Rattle.columns.specs.Cells.{cell, toCome}
 use Rattle.columns.proofs.Cells.{cells, cells-length, number-cells, point-column}
 
@@ -165,68 +166,100 @@ decimal-put at whole d unit n minus s s₁ s₃ u w v h r k p q =
 pub whole-fits : (n d unit k : ℕ) → unit ≡ 10 ^ d → n / 10 ^ d < 10 ^ k → n / unit < 10 ^ k
 whole-fits n d unit k e h = subst (λ (z : ℕ). n / z < 10 ^ k) (sym e) h
 
--- ---- put_fixed
+-- ---- decimals that fit
 
-pub three : Places 4 3 1000
-three = record { power = refl; least = lit≤ tt; most = lit≤ tt; front = lit≤ tt; narrow = lit≤ tt; below = lit≤ tt }
+-- the digits after the point and the point
+pointed-length : (s : Bool) (d n : ℕ) → length (dash s ++ pointed d n) ≡ length (dash s ++ decimal (n / 10 ^ d)) + suc d
+unfolding pointed
+pointed-length s d n =
+    let t = dash s ++ decimal (n / 10 ^ d) in
+    ap length (sym (append-assoc (dash s) (decimal (n / 10 ^ d)) (46 ∷ lastDigits d n)))
+    ∙ length-append t (46 ∷ lastDigits d n)
+    ∙ ap (λ (z : ℕ). length t + suc z) (length-last d n)
 
-pub two : Places 3 2 100
-two = record { power = refl; least = lit≤ tt; most = lit≤ tt; front = lit≤ tt; narrow = lit≤ tt; below = lit≤ tt }
-
--- what fits has few enough digits, by its sign
-fixed-below : (d j b : ℕ) → j < 18 → leb (length (fixed d b)) (suc (suc j) + suc d) ≡ true → rounded d b < 10 ^ (suc (suc j) - length (dash (negative d b))) * 10 ^ d
-fixed-below d j b l h = go (negative d b) (sym (fixed-width d j b l) ∙ h)
+leb-plus : (a b c : ℕ) → leb (a + c) (b + c) ≡ leb a b
+leb-plus a b c = go (leb a b) refl
   where
-    n : ℕ
-    n = rounded d b
+    go : (t : Bool) → leb a b ≡ t → leb (a + c) (b + c) ≡ t
+    go true e = let l = leb-true a b e in le-leb (a + c) (b + c) (omega arith)
+    go false e = let l = leb-false a b e in lt-leb (a + c) (b + c) (omega arith)
 
-    go : (s : Bool) → cond s (ltb n (10 ^ suc j * 10 ^ d)) (ltb n (10 ^ suc (suc j) * 10 ^ d)) ≡ true → n < 10 ^ (suc (suc j) - length (dash s)) * 10 ^ d
-    go true e = let z : suc j ≡ suc (suc j) - 1 = omega arith in subst (λ (k : ℕ). n < 10 ^ k * 10 ^ d) z (ltb-true n (10 ^ suc j * 10 ^ d) e)
-    go false e = let z : suc (suc j) ≡ suc (suc j) - 0 = omega arith in subst (λ (k : ℕ). n < 10 ^ k * 10 ^ d) z (ltb-true n (10 ^ suc (suc j) * 10 ^ d) e)
+-- j + 2 columns before the point
+whole-width : (s : Bool) (d j n : ℕ) → j < 18 → leb (length (dash s ++ pointed d n)) (suc (suc j) + suc d) ≡ cond s (ltb (n / 10 ^ d) (10 ^ suc j)) (ltb (n / 10 ^ d) (10 ^ suc (suc j)))
+whole-width s d j n l =
+    ap (λ (k : ℕ). leb k (suc (suc j) + suc d)) (pointed-length s d n)
+    ∙ leb-plus (length (dash s ++ decimal (n / 10 ^ d))) (suc (suc j)) (suc d)
+    ∙ dashed-width s j (n / 10 ^ d) l
 
--- so the number in units is exact, and its columns have room for it
-pub record Exact (whole d b n : ℕ) (s : Bool) : Type 0 where
-  pub number : n ≡ rounded d b
-  pub sign : s ≡ negative d b
+quotient-below : (n d k : ℕ) → ltb (n / 10 ^ d) k ≡ ltb n (k * 10 ^ d)
+quotient-below n d k = go (ltb n (k * 10 ^ d)) refl
+  where
+    p : 0 < 10 ^ d
+    p = one-le-pow d 10 (zero-lt-suc 9)
+
+    go : (t : Bool) → ltb n (k * 10 ^ d) ≡ t → ltb (n / 10 ^ d) k ≡ t
+    go true e = lt-ltb (n / 10 ^ d) k (div-lt-iff-lt-mul p .1 (ltb-true n (k * 10 ^ d) e))
+    go false e = le-ltb (n / 10 ^ d) k (le-div-iff-mul-le p .1 (ltb-false n (k * 10 ^ d) e))
+
+pub decimal-width : (s : Bool) (d j n : ℕ) → j < 18
+    → leb (length (dash s ++ pointed d n)) (suc (suc j) + suc d) ≡ cond s (ltb n (10 ^ suc j * 10 ^ d)) (ltb n (10 ^ suc (suc j) * 10 ^ d))
+decimal-width s d j n l = whole-width s d j n l ∙ (λ i. cond s (quotient-below n d (10 ^ suc j) i) (quotient-below n d (10 ^ suc (suc j)) i))
+
+-- what fits has few enough digits before the point
+pub record Room (whole d n : ℕ) (s : Bool) : Type 0 where
   pub front : 1 + length (dash s) ≤ whole
   pub digits : n / 10 ^ d < 10 ^ (whole - length (dash s))
 
-pub fixed-exact : (whole d unit b n : ℕ) (s : Bool) → Places whole d unit → leb (length (fixed d b)) (whole + (1 + d)) ≡ true → n ≡ min (inUnits unit (ofBits binary64 b)) 10000000 → s ≡ leb (2 ^ 63) b && ltb 0 n
-    → Exact whole d b n s
-fixed-exact whole d unit b n s o h e f =
-    let j = whole - 2 in
-    let front = o .front in
-    let narrow = o .narrow in
-    let below = o .below in
-    let w : suc (suc j) ≡ whole = omega arith in
-    let v : whole + (1 + d) ≡ suc (suc j) + suc d = omega arith in
-    let k = length (dash (negative d b)) in
-    let fits : rounded d b < 10 ^ (whole - k) * 10 ^ d =
-    subst (λ (z : ℕ). rounded d b < 10 ^ (z - k) * 10 ^ d) w (fixed-below d j b (omega arith) (ap (leb (length (fixed d b))) (sym v) ∙ h)) in
-    let p : 10 ^ (whole - k) ≤ 10 ^ whole = pow-mono-10 (whole - k) whole (omega arith) in
-    let q : 10 ^ (whole - k) * 10 ^ d ≤ 10 ^ whole * 10 ^ d = mul-le-mul-right (10 ^ d) p in
-    let same : inUnits unit (ofBits binary64 b) ≡ rounded d b = ap (λ (u : ℕ). inUnits u (ofBits binary64 b)) (o .power) in
-    let number : n ≡ rounded d b = omega arith in
-    let sign : s ≡ negative d b = f ∙ ap (λ (z : ℕ). leb (2 ^ 63) b && ltb 0 z) number in
-    record {
-      number = number;
-      sign = sign;
-      front = subst (λ (t : Bool). 1 + length (dash t) ≤ whole) (sym sign) (one-dash (negative d b) whole front);
-      digits = div-lt-iff-lt-mul (one-le-pow d 10 (zero-lt-suc 9)) .1 (subst (λ (t : Bool). n < 10 ^ (whole - length (dash t)) * 10 ^ d) (sym sign) (subst (λ (z : ℕ). z < 10 ^ (whole - k) * 10 ^ d) (sym number) fits));
-    }
+pub room : (s : Bool) (d j n : ℕ) → j < 18 → leb (length (dash s ++ pointed d n)) (suc (suc j) + suc d) ≡ true → Room (suc (suc j)) d n s
+room s d j n l h = go s (sym (whole-width s d j n l) ∙ h)
   where
-    one-dash : (t : Bool) (m : ℕ) → 2 ≤ m → 1 + length (dash t) ≤ m
-    one-dash true m h = h
-    one-dash false m h = omega arith
+    go : (s : Bool) → cond s (ltb (n / 10 ^ d) (10 ^ suc j)) (ltb (n / 10 ^ d) (10 ^ suc (suc j))) ≡ true → Room (suc (suc j)) d n s
+    go true e =
+        let z : suc j ≡ suc (suc j) - 1 = omega arith in
+        record { front = omega arith; digits = subst (λ (k : ℕ). n / 10 ^ d < 10 ^ k) z (ltb-true (n / 10 ^ d) (10 ^ suc j) e) }
+    go false e =
+        let z : suc (suc j) ≡ suc (suc j) - 0 = omega arith in
+        record { front = omega arith; digits = subst (λ (k : ℕ). n / 10 ^ d < 10 ^ k) z (ltb-true (n / 10 ^ d) (10 ^ suc (suc j)) e) }
 
-    pow-mono-10 : (a c : ℕ) → a ≤ c → 10 ^ a ≤ 10 ^ c
-    pow-mono-10 a c l = pow-le-pow-right (zero-lt-suc 9) l
+-- ---- an f64 as a decimal
 
-pub fixed-put : (at whole d b n : ℕ) (s : Bool) (t t′ : List ℕ) → Exact whole d b n s → Put at (columnText (atRight (whole + (1 + d)) (dash s ++ pointed d n))) t t′
-    → Put at (columnText (atRight (whole + (1 + d)) (fixed d b))) t t′
-unfolding fixed
-fixed-put at whole d b n s t t′ e p =
-    record {
-      is = p .is ∙ (λ i. over at (columnText (atRight (whole + (1 + d)) (dash (e .sign i) ++ pointed d (e .number i)))) t);
-      size = p .size;
-    }
+pub decimal-made : (unit b n : ℕ) → n ≡ min (inUnits unit (ofBits binary64 b)) 10000000 → _≡_ {A = Decimal} (record { minus = leb (2 ^ 63) b && ltb 0 n; size = n }) (decimalOf unit b)
+decimal-made unit b n e = λ i. record { minus = leb (2 ^ 63) b && ltb 0 (e i); size = e i }
+
+-- a test below the cut doesn't see the cut
+cut-below : (m k : ℕ) → k ≤ 10000000 → ltb (min m 10000000) k ≡ ltb m k
+cut-below m k h = go (ltb m k) refl
+  where
+    go : (t : Bool) → ltb m k ≡ t → ltb (min m 10000000) k ≡ t
+    go true e = let l = ltb-true m k e in lt-ltb (min m 10000000) k (omega arith)
+    go false e = let l = ltb-false m k e in le-ltb (min m 10000000) k (omega arith)
+
+cut-some : (m : ℕ) → ltb 0 (min m 10000000) ≡ ltb 0 m
+cut-some m = go (ltb 0 m) refl
+  where
+    go : (t : Bool) → ltb 0 m ≡ t → ltb 0 (min m 10000000) ≡ t
+    go true e = let l = ltb-true 0 m e in lt-ltb 0 (min m 10000000) (omega arith)
+    go false e = let l = ltb-false 0 m e in le-ltb 0 (min m 10000000) (omega arith)
+
+module _ (d j b : ℕ) (l : j < 18) (p : 10 ^ suc j * 10 ^ d ≤ 10000000) (q : 10 ^ suc (suc j) * 10 ^ d ≤ 10000000) where
+  abbrev r : ℕ
+  r = rounded d b
+
+  -- so it is as wide as the f64
+  pub made-width : leb (length (decimalText d (decimalOf (10 ^ d) b))) (suc (suc j) + suc d) ≡ leb (length (fixed d b)) (suc (suc j) + suc d)
+  made-width =
+      decimal-width (leb (2 ^ 63) b && ltb 0 (min r 10000000)) d j (min r 10000000) l
+      ∙ (λ i. cond (leb (2 ^ 63) b && cut-some r i) (cut-below r (10 ^ suc j * 10 ^ d) p i) (cut-below r (10 ^ suc (suc j) * 10 ^ d) q i))
+      ∙ sym (fixed-width d j b l)
+
+  -- and, where that fits, written as the f64 is
+  pub made-text : leb (length (fixed d b)) (suc (suc j) + suc d) ≡ true → decimalText d (decimalOf (10 ^ d) b) ≡ fixed d b
+  unfolding fixed
+  made-text h =
+      let few : r < 10000000 = go (negative d b) (sym (fixed-width d j b l) ∙ h) in
+      let e : min r 10000000 ≡ r = omega arith in
+      ap (λ (n : ℕ). dash (leb (2 ^ 63) b && ltb 0 n) ++ pointed d n) e
+    where
+      go : (s : Bool) → cond s (ltb r (10 ^ suc j * 10 ^ d)) (ltb r (10 ^ suc (suc j) * 10 ^ d)) ≡ true → r < 10000000
+      go true e = lt-of-lt-of-le (ltb-true r (10 ^ suc j * 10 ^ d) e) p
+      go false e = lt-of-lt-of-le (ltb-true r (10 ^ suc (suc j) * 10 ^ d) e) q

@@ -11,13 +11,16 @@ use mir.Val.{toZ}
 use borrow.Author.Tests.{ltb-true, leb-true}
 use Rattle.machine.specs.Lists.{all, bytes}
 use Rattle.machine.specs.Text.{unpacked, withoutZeros, textOf}
-use Rattle.machine.specs.Record.{Words, finite, fieldsOf, goodValues}
+use Rattle.machine.specs.Record.{Atom, Words, finite, fieldsOf, goodValues}
 use Rattle.machine.specs.Program.{decimal, newline}
-use Rattle.machine.specs.Lines.{atLeft, atRight, columnText, blanks, fitting, lineOf, dash, fixed, chargeText, symbol, indent, signed, nameColumns, placeColumns, valueColumns, elementColumns, atomColumns, modelColumns, endColumns}
+use Rattle.machine.specs.Lines.{Column, atLeft, atRight, columnText, blanks, fitting, lineOf, dash, chargeText, symbol, indent, signed, nameColumns, placeColumns, valueColumns, elementColumns, atomColumns, modelColumns, endColumns}
 use Rattle.laws.specs.Lists.{and-both, All-of}
 use Rattle.laws.specs.Digits.{decimal-width, dashed-width, signed-parts}
-use Rattle.columns.specs.Put.{Put, Adds, lineAt, placeOf, GoodAtom}
+use Rattle.columns.specs.Put.{Put, Adds, lineAt, placeOf, GoodAtom, decimalText, decimalOf, decimalsOf, decimalColumns, columnsAt}
 use Rattle.columns.specs.declared.Above.{Above}
+use Rattle.columns.specs.declared.Decimal.{Decimal}
+use Rattle.columns.specs.declared.Decimals.{Decimals}
+use Rattle.columns.proofs.Numbers.{Room, room, made-width, made-text}
 use Rattle.columns.proofs.Lines.{all-append, put-column, put-left, put-indented, put-right, skip, start, blank-line, line-whole}
 
 -- ---- columns 1 to 16
@@ -97,35 +100,67 @@ good-values w g =
 
 -- ---- columns 31 to 76
 
-pub record ValuesFit (w : Words) : Type 0 where
-  pub x : leb (length (fixed 3 (getD w 3 0))) 8 ≡ true
-  pub y : leb (length (fixed 3 (getD w 4 0))) 8 ≡ true
-  pub z : leb (length (fixed 3 (getD w 5 0))) 8 ≡ true
-  pub occupancy : leb (length (fixed 2 (getD w 6 0))) 6 ≡ true
-  pub factor : leb (length (fixed 2 (getD w 7 0))) 6 ≡ true
+pub decimals-made : (w : Words) (x y z o f : Decimal) → x ≡ decimalOf 1000 (getD w 3 0) → y ≡ decimalOf 1000 (getD w 4 0) → z ≡ decimalOf 1000 (getD w 5 0) → o ≡ decimalOf 100 (getD w 6 0)
+    → f ≡ decimalOf 100 (getD w 7 0) → _≡_ {A = Decimals} (record { x = x; y = y; z = z; occupancy = o; «b_factor» = f }) (decimalsOf (fieldsOf 0 w))
+unfolding decimalsOf fieldsOf
+decimals-made w x y z o f p q r t u = λ i. record { x = p i; y = q i; z = r i; occupancy = t i; «b_factor» = u i }
 
-pub values-fit : (w : Words) → all fitting (valueColumns (fieldsOf 0 w)) ≡ true → ValuesFit w
-unfolding valueColumns fieldsOf
-values-fit w h =
-    let f = All-of fitting (valueColumns (fieldsOf 0 w)) h in
-    record { x = f .0; y = f .1 .0; z = f .1 .1 .0; occupancy = f .1 .1 .1 .0; factor = f .1 .1 .1 .1 .0 }
+made-fits : (a : Atom) → all fitting (decimalColumns (decimalsOf a)) ≡ all fitting (valueColumns a)
+unfolding valueColumns decimalColumns decimalsOf
+made-fits a =
+    λ i. made-width 3 2 (a .x) (lit< tt) (lit≤ tt) (lit≤ tt) i
+    && (made-width 3 2 (a .y) (lit< tt) (lit≤ tt) (lit≤ tt) i
+    && (made-width 3 2 (a .z) (lit< tt) (lit≤ tt) (lit≤ tt) i
+    && (made-width 2 1 (a .occupancy) (lit< tt) (lit≤ tt) (lit≤ tt) i
+    && (made-width 2 1 (a .«b_factor») (lit< tt) (lit≤ tt) (lit≤ tt) i && true))))
 
-pub value-adds : (w : Words) (s s₁ s₂ s₃ s₄ s₅ : List ℕ) → all fitting (valueColumns (fieldsOf 0 w)) ≡ true → Put 30 (columnText (atRight 8 (fixed 3 (getD w 3 0)))) s s₁
-    → Put 38 (columnText (atRight 8 (fixed 3 (getD w 4 0)))) s₁ s₂ → Put 46 (columnText (atRight 8 (fixed 3 (getD w 5 0)))) s₂ s₃ → Put 54 (columnText (atRight 6 (fixed 2 (getD w 6 0)))) s₃ s₄
-    → Put 60 (columnText (atRight 6 (fixed 2 (getD w 7 0)))) s₄ s₅ → Adds 30 76 (valueColumns (fieldsOf 0 w)) s s₅
-unfolding valueColumns fieldsOf
-value-adds w s s₁ s₂ s₃ s₄ s₅ h p q t u v =
-    let f = values-fit w h in
-    record {
-      size = v .size;
-      after = λ ds o.
-          let a = put-column 30 ds [] _ s s₁ (f .x) (lit≤ tt) (start 30 ds s o) p in
-          let b = put-column 38 ds _ _ s₁ s₂ (f .y) (lit≤ tt) a q in
-          let c = put-column 46 ds _ _ s₂ s₃ (f .z) (lit≤ tt) b t in
-          let d = put-column 54 ds _ _ s₃ s₄ (f .occupancy) (lit≤ tt) c u in
-          let e = put-column 60 ds _ _ s₄ s₅ (f .factor) (lit≤ tt) d v in
-          skip 66 ds _ 10 s₅ (v .size) (lit≤ tt) e;
-    }
+made-same : (a : Atom) → all fitting (valueColumns a) ≡ true → decimalColumns (decimalsOf a) ≡ valueColumns a
+unfolding valueColumns decimalColumns decimalsOf
+made-same a h =
+    let f = All-of fitting (valueColumns a) h in
+    let x = made-text 3 2 (a .x) (lit< tt) (lit≤ tt) (lit≤ tt) (f .0) in
+    let y = made-text 3 2 (a .y) (lit< tt) (lit≤ tt) (lit≤ tt) (f .1 .0) in
+    let z = made-text 3 2 (a .z) (lit< tt) (lit≤ tt) (lit≤ tt) (f .1 .1 .0) in
+    let o = made-text 2 1 (a .occupancy) (lit< tt) (lit≤ tt) (lit≤ tt) (f .1 .1 .1 .0) in
+    let b = made-text 2 1 (a .«b_factor») (lit< tt) (lit≤ tt) (lit≤ tt) (f .1 .1 .1 .1 .0) in
+    λ i. atRight 8 (x i) ∷ atRight 8 (y i) ∷ atRight 8 (z i) ∷ atRight 6 (o i) ∷ atRight 6 (b i) ∷ atLeft 10 [] ∷ []
+
+pub record DecimalsFit (ds : Decimals) : Type 0 where
+  pub x : Room 4 3 (ds .x .size) (ds .x .minus)
+  pub y : Room 4 3 (ds .y .size) (ds .y .minus)
+  pub z : Room 4 3 (ds .z .size) (ds .z .minus)
+  pub occupancy : Room 3 2 (ds .occupancy .size) (ds .occupancy .minus)
+  pub factor : Room 3 2 (ds .«b_factor» .size) (ds .«b_factor» .minus)
+
+module _ (ds : Decimals) (h : all fitting (decimalColumns ds) ≡ true) where
+  pub decimals-fit : DecimalsFit ds
+  unfolding decimalColumns
+  decimals-fit =
+      let f = All-of fitting (decimalColumns ds) h in
+      record {
+        x = room (ds .x .minus) 3 2 (ds .x .size) (lit< tt) (f .0);
+        y = room (ds .y .minus) 3 2 (ds .y .size) (lit< tt) (f .1 .0);
+        z = room (ds .z .minus) 3 2 (ds .z .size) (lit< tt) (f .1 .1 .0);
+        occupancy = room (ds .occupancy .minus) 2 1 (ds .occupancy .size) (lit< tt) (f .1 .1 .1 .0);
+        factor = room (ds .«b_factor» .minus) 2 1 (ds .«b_factor» .size) (lit< tt) (f .1 .1 .1 .1 .0);
+      }
+
+  pub decimal-adds : (s s₁ s₂ s₃ s₄ s₅ : List ℕ) → Put 30 (columnText (atRight 8 (decimalText 3 (ds .x)))) s s₁ → Put 38 (columnText (atRight 8 (decimalText 3 (ds .y)))) s₁ s₂
+      → Put 46 (columnText (atRight 8 (decimalText 3 (ds .z)))) s₂ s₃ → Put 54 (columnText (atRight 6 (decimalText 2 (ds .occupancy)))) s₃ s₄
+      → Put 60 (columnText (atRight 6 (decimalText 2 (ds .«b_factor»)))) s₄ s₅ → Adds 30 76 (decimalColumns ds) s s₅
+  unfolding decimalColumns
+  decimal-adds s s₁ s₂ s₃ s₄ s₅ p q t u v =
+      let f = All-of fitting (decimalColumns ds) h in
+      record {
+        size = v .size;
+        after = λ es o.
+            let a = put-column 30 es [] _ s s₁ (f .0) (lit≤ tt) (start 30 es s o) p in
+            let b = put-column 38 es _ _ s₁ s₂ (f .1 .0) (lit≤ tt) a q in
+            let c = put-column 46 es _ _ s₂ s₃ (f .1 .1 .0) (lit≤ tt) b t in
+            let d = put-column 54 es _ _ s₃ s₄ (f .1 .1 .1 .0) (lit≤ tt) c u in
+            let e = put-column 60 es _ _ s₄ s₅ (f .1 .1 .1 .1 .0) (lit≤ tt) d v in
+            skip 66 es _ 10 s₅ (v .size) (lit≤ tt) e;
+      }
 
 -- ---- columns 77 to 80
 
@@ -145,39 +180,70 @@ element-adds w s s₁ s₂ h p q =
 
 -- ---- whole lines
 
-pub blank-size : (s : List ℕ) → s ≡ blanks 80 ++ newline → length s ≡ 81
-blank-size s e = ap length e
+-- a line whose columns 31 to 76 are vs fits where its parts do
+parts : (u : Above) (a : Atom) (vs : List Column) → all fitting (nameColumns a ++ (placeOf u ++ (vs ++ elementColumns a)))
+    ≡ all fitting (nameColumns a) && (all fitting (placeOf u) && (all fitting vs && all fitting (elementColumns a)))
+parts u a vs =
+    all-append (nameColumns a) (placeOf u ++ (vs ++ elementColumns a))
+    ∙ ap (λ (t : Bool). all fitting (nameColumns a) && t) (all-append (placeOf u) (vs ++ elementColumns a) ∙ ap (λ (t : Bool). all fitting (placeOf u) && t) (all-append vs (elementColumns a)))
 
-pub record PartsFit (u : Above) (w : Words) : Type 0 where
-  pub name : all fitting (nameColumns (fieldsOf 0 w)) ≡ true
+pub record PartsFit (u : Above) (a : Atom) (vs : List Column) : Type 0 where
+  pub name : all fitting (nameColumns a) ≡ true
   pub place : all fitting (placeOf u) ≡ true
-  pub values : all fitting (valueColumns (fieldsOf 0 w)) ≡ true
-  pub element : all fitting (elementColumns (fieldsOf 0 w)) ≡ true
+  pub values : all fitting vs ≡ true
+  pub element : all fitting (elementColumns a) ≡ true
 
--- a line fits where its parts do
-pub parts : (u : Above) (w : Words)
-    → all fitting (atomColumns (lineAt u w)) ≡ all fitting (nameColumns (fieldsOf 0 w)) && (all fitting (placeOf u) && (all fitting (valueColumns (fieldsOf 0 w)) && all fitting (elementColumns (fieldsOf 0 w))))
-unfolding atomColumns
-parts u w =
-    let a = fieldsOf 0 w in
-    all-append (nameColumns a) (placeOf u ++ (valueColumns a ++ elementColumns a))
-    ∙ ap (λ (t : Bool). all fitting (nameColumns a) && t) (all-append (placeOf u) (valueColumns a ++ elementColumns a) ∙ ap (λ (t : Bool). all fitting (placeOf u) && t) (all-append (valueColumns a) (elementColumns a)))
-
-pub parts-fit : (u : Above) (w : Words) → all fitting (atomColumns (lineAt u w)) ≡ true → PartsFit u w
-parts-fit u w h =
-    let f = and-both _ _ (sym (parts u w) ∙ h) in
+each-fits : (u : Above) (a : Atom) (vs : List Column) → all fitting (nameColumns a ++ (placeOf u ++ (vs ++ elementColumns a))) ≡ true → PartsFit u a vs
+each-fits u a vs h =
+    let f = and-both _ _ (sym (parts u a vs) ∙ h) in
     let g = and-both _ _ (f .1) in
     let k = and-both _ _ (g .1) in
     record { name = f .0; place = g .0; values = k .0; element = k .1 }
 
-pub atom-whole : (u : Above) (w : Words) (s s₁ s₂ s₃ s₄ : List ℕ) → s ≡ blanks 80 ++ newline → Adds 0 16 (nameColumns (fieldsOf 0 w)) s s₁ → Adds 16 30 (placeOf u) s₁ s₂
-    → Adds 30 76 (valueColumns (fieldsOf 0 w)) s₂ s₃ → Adds 76 80 (elementColumns (fieldsOf 0 w)) s₃ s₄ → s₄ ≡ lineOf (atomColumns (lineAt u w))
+pub atom-each : (u : Above) (w : Words) → all fitting (atomColumns (lineAt u w)) ≡ true → PartsFit u (fieldsOf 0 w) (valueColumns (fieldsOf 0 w))
 unfolding atomColumns
-atom-whole u w s s₁ s₂ s₃ s₄ e p q t v =
-    let a = fieldsOf 0 w in
-    let o = v .after _ (t .after _ (q .after _ (p .after [] (blank-line s e)))) in
-    line-whole _ s₄ o
-    ∙ ap lineOf (append-assoc (nameColumns a ++ placeOf u) (valueColumns a) (elementColumns a) ∙ append-assoc (nameColumns a) (placeOf u) (valueColumns a ++ elementColumns a))
+atom-each u w h = each-fits u (fieldsOf 0 w) (valueColumns (fieldsOf 0 w)) h
+
+module _ (u : Above) (w : Words) (ds : Decimals) where
+  abbrev a : Atom
+  a = fieldsOf 0 w
+
+  pub fits-parts : all fitting (columnsAt u w ds)
+      ≡ all fitting (nameColumns (fieldsOf 0 w)) && (all fitting (placeOf u) && (all fitting (decimalColumns ds) && all fitting (elementColumns (fieldsOf 0 w))))
+  fits-parts = parts u a (decimalColumns ds)
+
+  pub parts-fit : all fitting (columnsAt u w ds) ≡ true → PartsFit u (fieldsOf 0 w) (decimalColumns ds)
+  parts-fit h = each-fits u a (decimalColumns ds) h
+
+  pub line-parts : (s s₁ s₂ s₃ s₄ : List ℕ) → s ≡ blanks 80 ++ newline → Adds 0 16 (nameColumns (fieldsOf 0 w)) s s₁ → Adds 16 30 (placeOf u) s₁ s₂
+      → Adds 30 76 (decimalColumns ds) s₂ s₃ → Adds 76 80 (elementColumns (fieldsOf 0 w)) s₃ s₄ → s₄ ≡ lineOf (columnsAt u w ds)
+  line-parts s s₁ s₂ s₃ s₄ e p q t v =
+      let vs = decimalColumns ds in
+      let o = v .after _ (t .after _ (q .after _ (p .after [] (blank-line s e)))) in
+      line-whole _ s₄ o
+      ∙ ap lineOf (append-assoc (nameColumns a ++ placeOf u) vs (elementColumns a) ∙ append-assoc (nameColumns a) (placeOf u) (vs ++ elementColumns a))
+
+  -- with the decimals of the f64 values
+  module _ (m : ds ≡ decimalsOf (fieldsOf 0 w)) where
+    both-fit : all fitting (columnsAt u w ds) ≡ all fitting (atomColumns (lineAt u w))
+    unfolding atomColumns
+    both-fit =
+        fits-parts
+        ∙ ap (λ (t : Bool). all fitting (nameColumns a) && (all fitting (placeOf u) && (t && all fitting (elementColumns a)))) (ap (λ (es : Decimals). all fitting (decimalColumns es)) m ∙ made-fits a)
+        ∙ sym (parts u a (valueColumns a))
+
+    pub atom-fits : (r : Bool) → r ≡ all fitting (columnsAt u w ds) → r ≡ all fitting (atomColumns (lineAt u w))
+    atom-fits r e = e ∙ both-fit
+
+    pub atom-decimals : all fitting (atomColumns (lineAt u w)) ≡ true → all fitting (decimalColumns ds) ≡ true
+    atom-decimals h = parts-fit (both-fit ∙ h) .values
+
+    pub atom-whole : (s s₁ s₂ s₃ s₄ : List ℕ) → all fitting (atomColumns (lineAt u w)) ≡ true → s ≡ blanks 80 ++ newline → Adds 0 16 (nameColumns (fieldsOf 0 w)) s s₁ → Adds 16 30 (placeOf u) s₁ s₂
+        → Adds 30 76 (decimalColumns ds) s₂ s₃ → Adds 76 80 (elementColumns (fieldsOf 0 w)) s₃ s₄ → s₄ ≡ lineOf (atomColumns (lineAt u w))
+    unfolding atomColumns
+    atom-whole s s₁ s₂ s₃ s₄ h e p q t v =
+        line-parts s s₁ s₂ s₃ s₄ e p q t v
+        ∙ ap (λ (vs : List Column). lineOf (nameColumns a ++ (placeOf u ++ (vs ++ elementColumns a)))) (ap decimalColumns m ∙ made-same a (atom-each u w h .values))
 
 pub model-serial : (n : ℕ) → all fitting (modelColumns (record { serial = n })) ≡ true → n < 10000
 unfolding modelColumns

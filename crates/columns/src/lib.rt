@@ -1,6 +1,6 @@
 // The columns of PDB lines, put one after the other into a line of blanks, and which fields fit into their columns.
 ghost use mathlib.Core.Path.{_≡_};
-ghost use mathlib.Core.Bool.{true, _&&_, cond};
+ghost use mathlib.Core.Bool.{true, cond};
 ghost use mathlib.Core.List.{_++_, [], _∷_};
 ghost use Prim.Native.Nat.{_+_, _-_, _*_, _/_, _^_, _≤_, _<_};
 ghost use lib.Dec.{leb, ltb, eqb};
@@ -12,9 +12,9 @@ ghost use Rattle.machine.specs.Lists.{all, bytes};
 ghost use Rattle.machine.specs.Text.{textOf};
 ghost use Rattle.machine.specs.Record.{finite, fieldsOf};
 ghost use Rattle.machine.specs.Program.{decimal, newline};
-ghost use Rattle.machine.specs.Lines.{atLeft, atRight, columnText, fitting, blanks, lineOf, dash, lastDigits, pointed, fixed, signed, chargeText, symbol, indent, nameColumns, valueColumns, elementColumns, atomColumns, modelColumns, endColumns};
+ghost use Rattle.machine.specs.Lines.{atLeft, atRight, columnText, fitting, blanks, lineOf, dash, lastDigits, pointed, chargeText, symbol, indent, nameColumns, elementColumns, atomColumns, modelColumns, endColumns};
 ghost use Rattle.machine.specs.LinesIn.{elementOf};
-ghost use Rattle.columns.specs.Put.{Put, Places, Adds, GoodAtom, lineAt, placeOf};
+ghost use Rattle.columns.specs.Put.{Put, Adds, GoodAtom, lineAt, placeOf, decimalOf, decimalsOf, decimalColumns, columnsAt};
 ghost use Rattle.columns.specs.Cells as Cells;
 ghost use Rattle.columns.specs.Cells.{symbolColumns};
 use machine::Record;
@@ -26,6 +26,21 @@ pub struct Above {
     pub code: u64,
     pub name: u64,
     pub location: u64,
+}
+
+// A number of units of the last decimal, with a minus or without.
+pub struct Decimal {
+    pub minus: bool,
+    pub size: u64,
+}
+
+// An atom's decimals as a line has them: coordinates to three decimals, occupancy and B-factor to two.
+pub struct Decimals {
+    pub x: Decimal,
+    pub y: Decimal,
+    pub z: Decimal,
+    pub occupancy: Decimal,
+    pub b_factor: Decimal,
 }
 
 // ---- numbers
@@ -103,21 +118,30 @@ fn put_decimal(
     put_last(line, at + whole + 1, d, n);
 }
 
-// "a value that rounds to zero has no minus"
-fn negative(bits: u64, n: u64) -> bool
-    ensures { λ r. ⌜ r ≡ leb (2 ^ 63) bits && ltb 0 n ⌝ }
-{
-    (0x8000_0000_0000_0000 <= bits) & (0 < n)
-}
-
-// An f64 to d decimals at the right of its columns, `whole` of them before the point.
-fn put_fixed(line: &mut [u8; 81], at: usize, whole: usize, d: usize, unit: u64, bits: u64)
-    requires { ⌜ Places whole d unit × (finite bits ≡ true) × (leb (length (fixed d bits)) (whole + (1 + d)) ≡ true)
-        × (at + whole + 1 + d ≤ 81) × (length (now line) ≡ 81) ⌝ }
-    ensures { λ _. ⌜ Put at (columnText (atRight (whole + (1 + d)) (fixed d bits))) (now (line .entry)) (now (line .exit)) ⌝ }
+// An f64 as a decimal. "a value that rounds to zero has no minus"
+fn decimal_of(bits: u64, unit: u64) -> Decimal
+    requires { ⌜ (1 ≤ unit) × (unit ≤ 1000) × (finite bits ≡ true) ⌝ }
+    ensures { λ r. ⌜ r ≡ decimalOf unit bits ⌝ }
 {
     let n = rounding::in_units(bits, unit);
-    put_decimal(line, at, whole, d, unit, negative(bits, n), n);
+    Decimal {
+        minus: (0x8000_0000_0000_0000 <= bits) & (0 < n),
+        size: n,
+    }
+}
+
+// "Coordinates go out to three decimals, occupancy and B-factor to two."
+fn decimals_of(atom: &[u64]) -> Decimals
+    requires { ⌜ GoodAtom (now atom) ⌝ }
+    ensures { λ r. ⌜ r ≡ decimalsOf (fieldsOf 0 (now (atom .entry))) ⌝ }
+{
+    Decimals {
+        x: decimal_of(atom[Record::X], 1000),
+        y: decimal_of(atom[Record::Y], 1000),
+        z: decimal_of(atom[Record::Z], 1000),
+        occupancy: decimal_of(atom[Record::OCCUPANCY], 100),
+        b_factor: decimal_of(atom[Record::B_FACTOR], 100),
+    }
 }
 
 // The size of a signed number, given by its two's complement bits.
@@ -304,15 +328,31 @@ fn put_place_columns(line: &mut [u8; 81], above: Above)
 }
 
 // Columns 31 to 76.
-fn put_value_columns(line: &mut [u8; 81], atom: &[u64])
-    requires { ⌜ GoodAtom (now atom) × (all fitting (valueColumns (fieldsOf 0 (now atom))) ≡ true) × (length (now line) ≡ 81) ⌝ }
-    ensures { λ _. ⌜ Adds 30 76 (valueColumns (fieldsOf 0 (now (atom .entry)))) (now (line .entry)) (now (line .exit)) ⌝ }
+fn put_decimals(line: &mut [u8; 81], decimals: Decimals)
+    requires { ⌜ (all fitting (decimalColumns decimals) ≡ true) × (length (now line) ≡ 81) ⌝ }
+    ensures { λ _. ⌜ Adds 30 76 (decimalColumns decimals) (now (line .entry)) (now (line .exit)) ⌝ }
 {
-    put_fixed(line, 30, 4, 3, 1000, atom[Record::X]);
-    put_fixed(line, 38, 4, 3, 1000, atom[Record::Y]);
-    put_fixed(line, 46, 4, 3, 1000, atom[Record::Z]);
-    put_fixed(line, 54, 3, 2, 100, atom[Record::OCCUPANCY]);
-    put_fixed(line, 60, 3, 2, 100, atom[Record::B_FACTOR]);
+    put_decimal(line, 30, 4, 3, 1000, decimals.x.minus, decimals.x.size);
+    put_decimal(line, 38, 4, 3, 1000, decimals.y.minus, decimals.y.size);
+    put_decimal(line, 46, 4, 3, 1000, decimals.z.minus, decimals.z.size);
+    put_decimal(
+        line,
+        54,
+        3,
+        2,
+        100,
+        decimals.occupancy.minus,
+        decimals.occupancy.size,
+    );
+    put_decimal(
+        line,
+        60,
+        3,
+        2,
+        100,
+        decimals.b_factor.minus,
+        decimals.b_factor.size,
+    );
 }
 
 // Columns 77 to 80.
@@ -335,7 +375,20 @@ fn blank_line() -> [u8; 81]
     line
 }
 
-// ATOM or HETATM.
+// ATOM or HETATM, with decimals in place of the words of the f64 values.
+pub fn decimal_line(above: Above, atom: &[u64], decimals: Decimals) -> [u8; 81]
+    requires { ⌜ GoodAtom (now atom) × (all fitting (columnsAt above (now atom) decimals) ≡ true) ⌝ }
+    ensures { λ r. ⌜ r ≡ lineOf (columnsAt above (now (atom .entry)) decimals) ⌝ }
+{
+    let mut line = blank_line();
+    put_name_columns(&mut line, atom);
+    put_place_columns(&mut line, above);
+    put_decimals(&mut line, decimals);
+    put_element_columns(&mut line, atom);
+    line
+}
+
+// The same of these words. The parts are put here again: a call of the other would copy the line.
 pub fn atom_line(above: Above, atom: &[u64]) -> [u8; 81]
     requires { ⌜ GoodAtom (now atom) × (all fitting (atomColumns (lineAt above (now atom))) ≡ true) ⌝ }
     ensures { λ r. ⌜ r ≡ lineOf (atomColumns (lineAt above (now (atom .entry)))) ⌝ }
@@ -343,7 +396,7 @@ pub fn atom_line(above: Above, atom: &[u64]) -> [u8; 81]
     let mut line = blank_line();
     put_name_columns(&mut line, atom);
     put_place_columns(&mut line, above);
-    put_value_columns(&mut line, atom);
+    put_decimals(&mut line, decimals_of(atom));
     put_element_columns(&mut line, atom);
     line
 }
@@ -381,33 +434,15 @@ fn within(minus: bool, n: u64, limit: u64) -> bool
     n < limit * 10
 }
 
-// An f64 to three decimals in eight columns.
-fn fits_coordinate(bits: u64) -> bool
-    requires { ⌜ finite bits ≡ true ⌝ }
-    ensures { λ r. ⌜ r ≡ leb (length (fixed 3 bits)) 8 ⌝ }
+// Three decimals in eight columns, two in six.
+fn fits_decimals(decimals: Decimals) -> bool
+    ensures { λ r. ⌜ r ≡ all fitting (decimalColumns decimals) ⌝ }
 {
-    let n = rounding::in_units(bits, 1000);
-    within(negative(bits, n), n, 1_000_000)
-}
-
-// An f64 to two decimals in six columns.
-fn fits_factor(bits: u64) -> bool
-    requires { ⌜ finite bits ≡ true ⌝ }
-    ensures { λ r. ⌜ r ≡ leb (length (fixed 2 bits)) 6 ⌝ }
-{
-    let n = rounding::in_units(bits, 100);
-    within(negative(bits, n), n, 10_000)
-}
-
-fn fits_values(atom: &[u64]) -> bool
-    requires { ⌜ GoodAtom (now atom) ⌝ }
-    ensures { λ r. ⌜ r ≡ all fitting (valueColumns (fieldsOf 0 (now (atom .entry)))) ⌝ }
-{
-    fits_coordinate(atom[Record::X])
-        & fits_coordinate(atom[Record::Y])
-        & fits_coordinate(atom[Record::Z])
-        & fits_factor(atom[Record::OCCUPANCY])
-        & fits_factor(atom[Record::B_FACTOR])
+    within(decimals.x.minus, decimals.x.size, 1_000_000)
+        & within(decimals.y.minus, decimals.y.size, 1_000_000)
+        & within(decimals.z.minus, decimals.z.size, 1_000_000)
+        & within(decimals.occupancy.minus, decimals.occupancy.size, 10_000)
+        & within(decimals.b_factor.minus, decimals.b_factor.size, 10_000)
 }
 
 // A packed text has at most k bytes where its lowest 8 - k bytes are zero.
@@ -440,11 +475,19 @@ fn fits_element(atom: &[u64]) -> bool
 }
 
 // Whether no field of an atom's line is too wide for its columns.
+pub fn fits_line(above: Above, atom: &[u64], decimals: Decimals) -> bool
+    requires { ⌜ GoodAtom (now atom) ⌝ }
+    ensures { λ r. ⌜ r ≡ all fitting (columnsAt above (now (atom .entry)) decimals) ⌝ }
+{
+    fits_name(atom) & fits_place(above) & fits_decimals(decimals) & fits_element(atom)
+}
+
 pub fn fits_atom(above: Above, atom: &[u64]) -> bool
     requires { ⌜ GoodAtom (now atom) ⌝ }
     ensures { λ r. ⌜ r ≡ all fitting (atomColumns (lineAt above (now (atom .entry)))) ⌝ }
 {
-    fits_name(atom) & fits_place(above) & fits_values(atom) & fits_element(atom)
+    let decimals = decimals_of(atom);
+    fits_line(above, atom, decimals)
 }
 
 pub fn fits_model(serial: u64) -> bool

@@ -277,7 +277,7 @@ record Settles (d w b : ℕ) : Type 0 where
   again : fixed d (settle d b) ≡ fixed d b
   finite : finite (settle d b) ≡ true
 
-finite-value : (x : Float) (s : Bool) (a c : ℕ) → HasValue x s a c → isFinite x ≡ true
+pub finite-value : (x : Float) (s : Bool) (a c : ℕ) → HasValue x s a c → isFinite x ≡ true
 finite-value nan s a c h = absurd h
 finite-value (inf t) s a c h = absurd h
 finite-value (fin t m e) s a c h = refl

@@ -166,12 +166,16 @@ and-again true true = refl
 and-again true false = refl
 and-again false y = refl
 
+-- a decimal's nearest f64 is written as that decimal
+pub fixed-nearest : (d : ℕ) (s : Bool) (n : ℕ) → n < 2 ^ 52 → 10 ^ d < 2 ^ 64 → fixed d (nearestBits d s n) ≡ dash (s && ltb 0 n) ++ pointed d n
+unfolding fixed
+fixed-nearest d s n h k =
+    let b = nearestBits d s n in
+    ap (λ (z : Bool). dash (z && ltb 0 (rounded d b)) ++ pointed d (rounded d b)) (sign-back d s n h k)
+    ∙ ap (λ (z : ℕ). dash (s && ltb 0 z) ++ pointed d z) (decimals-back d s n h k)
+
 -- and it is written as the f64 was
 pub fixed-back : (d b : ℕ) → rounded d b < 2 ^ 52 → 10 ^ d < 2 ^ 64 → fixed d (settle d b) ≡ fixed d b
 unfolding fixed
 fixed-back d b h k =
-    let n = rounded d b in
-    let s = negative d b in
-    ap (λ (z : Bool). dash (z && ltb 0 (rounded d (settle d b))) ++ pointed d (rounded d (settle d b))) (sign-back d s n h k)
-    ∙ ap (λ (z : ℕ). dash (s && ltb 0 z) ++ pointed d z) (decimals-back d s n h k)
-    ∙ ap (λ (z : Bool). dash z ++ pointed d n) (and-again (leb (2 ^ 63) b) (ltb 0 n))
+    fixed-nearest d (negative d b) (rounded d b) h k ∙ ap (λ (z : Bool). dash z ++ pointed d (rounded d b)) (and-again (leb (2 ^ 63) b) (ltb 0 (rounded d b)))

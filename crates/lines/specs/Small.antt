@@ -49,7 +49,7 @@ from-small n (b ∷ t) =
     (lt-of-lt-of-le (from-small (withFigure n b) t) (mul-le-mul-right (10 ^ length t) (with-small n b)))
 
 -- the widest number has eight columns
-figures-small : (k : ℕ) (l : List ℕ) → k ≤ 8 → figures (take k l) < 10 ^ 8
+pub figures-small : (k : ℕ) (l : List ℕ) → k ≤ 8 → figures (take k l) < 10 ^ 8
 figures-small k l h =
     let n : length (take k l) ≤ 8 = omega (arith, length-take k l) in
     lt-of-lt-of-le (subst (λ (z : ℕ). figures (take k l) < z) (one-mul (10 ^ length (take k l))) (from-small 0 (take k l))) (pow-le-pow-right (lit< tt) n)

@@ -2,33 +2,41 @@
 use Prim.Native.Nat.{ℕ, zero, suc, _+_, _-_, _*_, _%_, _^_, _≤_, _<_}
 use mathlib.Core.Path.{_≡_, refl, sym, ap, _∙_, subst}
 use mathlib.Core.Bool.{Bool, true, false, _&&_, _||_, cond, false≢true}
-use mathlib.Core.List.{List, [], _∷_, reverse}
+use mathlib.Core.List.{List, [], _∷_, _++_, reverse}
+use mathlib.Core.Option.{Option, none, some, Option·map}
 use native.Mathlib.Nat.{add-zero, one-le-pow, zero-lt-suc, le-mul-of-pos-right, lt-of-lt-of-le}
 use native.Mathlib.Numerals.{add-one}
 use native.Mathlib.Omega.{arith}
-use lib.Dec.{leb, eqb}
+use lib.Dec.{leb, ltb, eqb, lit≤, lit<}
 use lib.ListN.{length, getD, take, drop, drop-of-length-le, length-append}
 use lib.Pow.{pow-add}
 use lib.Seq.{drop-cons, take-take, drop-drop}
-use lib.Ieee.{binary64, round, toBits}
-use borrow.Author.Tests.{leb-true, eq-eqb, ne-eqb}
-use Rattle.machine.specs.Lists.{all, any, sum, concatMap, same}
+use lib.Ieee.{binary64, round, ofBits, toBits}
+use lib.Ieee.Scale.{grid}
+use borrow.Author.Tests.{leb-true, le-leb, eq-eqb, ne-eqb}
+use Rattle.machine.specs.Lists.{all, any, sum, concatMap, same, firstWhere}
 use Rattle.machine.specs.Text.{blank, packed, pack, trim, trimStart, chainId, insertionCode, conformerName, alternativeLocation, atomName, storedBy, absentOr}
-use Rattle.machine.specs.Record.{Atom, Words, words, fieldsOf, goodValues, goodFields, goodRecord}
-use Rattle.machine.specs.Edit.{newAtom}
+use Rattle.machine.specs.Record.{Atom, Words, words, fieldsOf, finite, goodValues, goodFields}
+use Rattle.machine.specs.Rounding.{nearestBits}
 use Rattle.machine.specs.Program.{newline}
-use Rattle.machine.specs.Lines.{Column, columnText, fitting, lineOf, AtomLine, atomColumns, modelColumns, endColumns}
-use Rattle.machine.specs.LinesIn.{withFigure, figuresFrom, figures, hasMinus, signedBits, decimalBits, word, elementOf, atomIn, modelIn, goodLine}
+use Rattle.machine.specs.Lines.{Column, atLeft, atRight, columnText, fitting, lineOf, AtomLine, fixed, symbols, nameColumns, valueColumns, elementColumns, atomColumns, modelColumns, endColumns}
+use Rattle.machine.specs.LinesIn.{withFigure, figuresFrom, figures, hasMinus, signedBits, decimalBits, word, orZero, elementOf, atomIn, modelIn, goodLine}
 use Rattle.machine.specs.declared.NewAtom.{NewAtom}
 use Rattle.machine.specs.declared.PreparedAddition.{PreparedAddition}
-use Rattle.laws.specs.Lists.{and-both, same-true, same-refl}
+use Rattle.laws.specs.Lists.{and-both, same-true}
 use Rattle.laws.specs.Columns.{width, columns-length}
+use Rattle.lines.specs.Nearest.{value-back}
+use Rattle.lines.specs.Figures.{fixed-nearest}
+use Rattle.lines.specs.Fields.{finite-value}
+use Rattle.lines.specs.Small as small
 use Rattle.lines.specs.Taken.{takenAtom, takenModel, takenEnd}
 use Rattle.building.specs.Prepared.{preparedOf}
 use Rattle.building.specs.Lacks.{lacks}
-use Rattle.columns.specs.Put.{GoodAtom, lineAt}
+use Rattle.columns.specs.Put.{GoodAtom, placeOf, decimalText, decimalColumns, columnsAt}
 use Rattle.columns.specs.declared.Above.{Above}
-use Rattle.scanner.specs.Scan.{valuesOf, aboveOf, aboveIn, goodAbove, lacksAbove}
+use Rattle.columns.specs.declared.Decimal.{Decimal}
+use Rattle.columns.specs.declared.Decimals.{Decimals}
+use Rattle.scanner.specs.Scan.{valuesOf, aboveIn, decimalIn, decimalsIn, withoutFloats, goodAbove, lacksAbove}
 
 next : (t : List ℕ) (i : ℕ) → i < length t → drop i t ≡ getD t i 0 ∷ drop (i + 1) t
 next t i h = drop-cons t i 0 h ∙ ap (λ (j : ℕ). getD t i 0 ∷ drop j t) (sym (add-one i))
@@ -170,6 +178,14 @@ pub decimal-is : (t : List ℕ) (unit n r : ℕ) (minus : Bool) → minus ≡ ha
     → r ≡ toBits binary64 (round binary64 (hasMinus t) (figures t) unit)
 decimal-is t unit n r minus m e h = h ∙ (λ i. toBits binary64 (round binary64 (m i) (e i) unit))
 
+pub decimal-in-is : (t : List ℕ) (n : ℕ) (minus : Bool) → minus ≡ hasMinus t → n ≡ figures t → _≡_ {A = Decimal} (record { minus = minus && ltb 0 n; size = n }) (decimalIn t)
+decimal-in-is t n minus m e = λ i. record { minus = m i && ltb 0 (e i); size = e i }
+
+pub decimals-is : (l : List ℕ) (x y z o f : Decimal) → x ≡ decimalIn (take 8 (drop 30 l)) → y ≡ decimalIn (take 8 (drop 38 l)) → z ≡ decimalIn (take 8 (drop 46 l)) → o ≡ decimalIn (take 6 (drop 54 l))
+    → f ≡ decimalIn (take 6 (drop 60 l)) → _≡_ {A = Decimals} (record { x = x; y = y; z = z; occupancy = o; «b_factor» = f }) (decimalsIn l)
+unfolding decimalsIn
+decimals-is l x y z o f p q r t u = λ i. record { x = p i; y = q i; z = r i; occupancy = t i; «b_factor» = u i }
+
 -- ---- one column
 
 pub one-column : (l : List ℕ) (i : ℕ) → i < length l → take 1 (drop i l) ≡ getD l i 0 ∷ []
@@ -248,7 +264,7 @@ module _ (l : List ℕ) (h : length l ≡ 81) where
   pub above-is : (c s k n a : ℕ) → c ≡ word (getD l 21 0 ∷ []) → s ≡ signedBits (take 4 (drop 22 l)) → k ≡ word (getD l 26 0 ∷ [])
       → n ≡ word (take 3 (drop 17 l)) → a ≡ word (getD l 16 0 ∷ [])
       → _≡_ {A = Above} (record { chain = c; serial = s; code = k; name = n; location = a }) (aboveIn (atomIn l))
-  unfolding atomIn preparedOf
+  unfolding atomIn
   above-is c s k n a p q r t u =
       let v = p ∙ column 21 (omega arith) in
       let w = r ∙ column 26 (omega arith) in
@@ -272,6 +288,13 @@ module _ (l : List ℕ) (h : length l ≡ 81) where
       → _≡_ {A = PreparedAddition} (record { chain = u .chain; residue = u .serial; code = u .code; conformer = u .name; location = u .location; name = n; values = v }) (preparedOf (atomIn l))
   unfolding atomIn preparedOf
   atom-is u v n p q r = λ i. record { chain = p i .chain; residue = p i .serial; code = p i .code; conformer = p i .name; location = p i .location; name = r i; values = q i }
+
+  pub words-is : (s n e c t : ℕ) → s ≡ figures (take 5 (drop 6 l)) → n ≡ word (take 4 (drop 12 l)) → e ≡ elementOf (getD l 76 0 ∷ getD l 77 0 ∷ []) → c ≡ signedBits (take 2 (drop 78 l))
+      → t ≡ cond (eqb (getD l 0 0) 72) 1 0 → 5 ∷ s ∷ n ∷ 0 ∷ 0 ∷ 0 ∷ 0 ∷ 0 ∷ e ∷ c ∷ t ∷ 0 ∷ [] ≡ words 0 (withoutFloats (atomIn l .atom))
+  unfolding words withoutFloats atomIn
+  words-is s n e c t p1 p2 p3 p4 p5 =
+      let q = p3 ∙ ap elementOf (two-columns 76 (omega arith)) in
+      λ i. 5 ∷ p1 i ∷ p2 i ∷ 0 ∷ 0 ∷ 0 ∷ 0 ∷ 0 ∷ q i ∷ p4 i ∷ p5 i ∷ 0 ∷ []
 
   pub model-is : (n : ℕ) → n ≡ figures (take 4 (drop 10 l)) → n ≡ modelIn l .serial
   unfolding modelIn
@@ -325,7 +348,7 @@ module _ (b l : List ℕ) where
 
   -- so what stands above both atoms is the same
   above-alike : take 11 (drop 16 b) ≡ take 11 (drop 16 l) → aboveIn (atomIn b) ≡ aboveIn (atomIn l)
-  unfolding atomIn preparedOf
+  unfolding atomIn
   above-alike h =
       let c = within-columns 5 1 h (omega arith) in
       let s = within-columns 6 4 h (omega arith) in
@@ -335,7 +358,7 @@ module _ (b l : List ℕ) where
       λ i. record { chain = word (c i); serial = signedBits (s i); code = word (k i); name = word (n i); location = word (a i) }
 
   lacks-is : lacks (atomIn b) (atomIn l) ≡ lacksAbove (aboveIn (atomIn b)) (aboveIn (atomIn l))
-  unfolding lacks preparedOf
+  unfolding lacks
   lacks-is = refl
 
   self-lacks : (u : Above) → lacksAbove u u ≡ 1
@@ -379,51 +402,145 @@ pub all-stored : (u : Above) (a b c d : Bool) → a ≡ storedBy chainId (u .cha
     → d ≡ absentOr alternativeLocation (u .location) → a && b && c && d ≡ goodAbove u
 all-stored u a b c d p q r t = λ i. p i && q i && r i && t i
 
--- the atom of a record's twelve words
-record-back : (a : Atom) → fieldsOf 0 (words 0 a) ≡ a
-unfolding words fieldsOf
-record-back a = refl
+-- ---- an atom without its f64 values
 
-good-record : (a : Atom) → goodRecord 0 (words 0 a) ≡ goodFields 0 a
-unfolding goodRecord
-good-record a = ap (λ (b : Atom). same (words 0 a) (words 0 b) && goodFields 0 b) (record-back a) ∙ ap (λ (t : Bool). t && goodFields 0 a) (same-refl (words 0 a))
+decimal-text : (d k : ℕ) (t : List ℕ) → k ≤ 8 → 10 ^ d < 2 ^ 64 → fixed d (decimalBits d (take k t)) ≡ decimalText d (decimalIn (take k t))
+unfolding decimalBits
+decimal-text d k t h m = fixed-nearest d (hasMinus (take k t)) (figures (take k t)) (lt-of-lt-of-le (small.figures-small k t h) (lit≤ tt)) m
 
-good-line : (l : AtomLine) → goodLine l ≡ goodAbove (aboveIn l) && goodRecord 0 (words 0 (newAtom (preparedOf l)))
-unfolding goodLine goodFields preparedOf
-good-line l =
-    good-parts (storedBy chainId (l .chain .id)) (absentOr insertionCode (l .residue .code)) (storedBy conformerName (l .conformer .name)) (absentOr alternativeLocation (l .conformer .location)) (goodFields 0 (l .atom))
-    ∙ ap (λ (t : Bool). goodAbove (aboveIn l) && t) (sym (good-record (l .atom)))
+finite-decimal : (d k : ℕ) (t : List ℕ) → k ≤ 8 → 10 ^ d < 2 ^ 64 → finite (decimalBits d (take k t)) ≡ true
+unfolding decimalBits
+finite-decimal d k t h m =
+    let s = hasMinus (take k t) in
+    let n = figures (take k t) in
+    finite-value (ofBits binary64 (nearestBits d s n)) s (grid binary64 n (10 ^ d)) (2 ^ 1074) (value-back d s n (lt-of-lt-of-le (small.figures-small k t h) (lit≤ tt)) m)
 
-pub good-atom : (p : PreparedAddition) (w : Words) (a b : Bool) → w ≡ words 0 (newAtom p) → b ≡ goodRecord 0 w → a && b ≡ true → GoodAtom w
-unfolding goodFields words
-good-atom p w a b e h k =
-    let g : goodFields 0 (newAtom p) ≡ true = sym (good-record (newAtom p)) ∙ ap (goodRecord 0) (sym e) ∙ sym h ∙ and-both a b k .1 in
-    subst GoodAtom (sym e) (record { size = refl; good = ap goodValues (record-back (newAtom p)) ∙ and-both (storedBy atomName (p .name)) (goodValues (newAtom p)) g .1 })
+first-within : (p : List ℕ → Bool) (xs : List (List ℕ)) → orZero (Option·map suc (firstWhere p xs)) ≤ length xs
+first-within p [] = omega arith
+first-within p (x ∷ xs) = go (p x) (firstWhere p xs) (first-within p xs)
+  where
+    go : (t : Bool) (o : Option ℕ) → orZero (Option·map suc o) ≤ length xs → orZero (Option·map suc (cond t (some 0) (Option·map suc o))) ≤ suc (length xs)
+    go true o h = omega arith
+    go false none h = omega arith
+    go false (some k) h = omega arith
 
--- the line of an addition's words is the line that was read
-line-of : (l : AtomLine) → lineAt (aboveIn l) (words 0 (newAtom (preparedOf l))) ≡ l
-unfolding preparedOf words fieldsOf
-line-of l = refl
+element-within : (t : List ℕ) → elementOf t ≤ 118
+unfolding elementOf
+element-within t = go (firstWhere stands ([] ∷ symbols)) (first-within stands ([] ∷ symbols))
+  where
+    stands : List ℕ → Bool
+    stands symbol = same t (columnText (atRight 2 symbol))
 
-module _ (l : List ℕ) (p : PreparedAddition) (u : Above) (w : Words) (a b : Bool) (e : p ≡ preparedOf (atomIn l)) (f : u ≡ aboveOf p) (g : w ≡ words 0 (newAtom p)) (h : a ≡ goodAbove u) (k : b ≡ goodRecord 0 w) where
-  is-good : goodLine (atomIn l) ≡ a && b
-  is-good =
-      good-line (atomIn l)
-      ∙ (λ i. goodAbove (aboveOf (sym e i)) && goodRecord 0 (words 0 (newAtom (sym e i))))
-      ∙ (λ i. goodAbove (sym f i) && goodRecord 0 (sym g i))
-      ∙ (λ i. sym h i && sym k i)
+    go : (o : Option ℕ) → orZero (Option·map suc o) ≤ 119 → orZero o ≤ 118
+    go none h = omega arith
+    go (some k) h = omega arith
 
-  pub taken-written : (r : Bool) → r ≡ all fitting (atomColumns (lineAt u w)) && same (lineOf (atomColumns (lineAt u w))) l → a && b ≡ true → r ≡ takenAtom l
-  unfolding takenAtom
-  taken-written r x y =
-      let z : lineAt u w ≡ atomIn l = (λ i. lineAt (f i) (g i)) ∙ (λ i. lineAt (aboveOf (e i)) (words 0 (newAtom (e i)))) ∙ line-of (atomIn l) in
-      x
-      ∙ ap (λ (t : AtomLine). all fitting (atomColumns t) && same (lineOf (atomColumns t)) l) z
-      ∙ ap (λ (t : Bool). t && (all fitting (atomColumns (atomIn l)) && same (lineOf (atomColumns (atomIn l))) l)) (sym (is-good ∙ y))
+-- of any atom, the words without f64 values have the same columns but for these
+bare-size : (b : Atom) → length (words 0 b) ≡ 12
+unfolding words
+bare-size b = refl
 
-  pub taken-bad : a && b ≡ false → false ≡ takenAtom l
-  unfolding takenAtom
-  taken-bad y = ap (λ (t : Bool). t && (all fitting (atomColumns (atomIn l)) && same (lineOf (atomColumns (atomIn l))) l)) (sym (is-good ∙ y))
+bare-values : (b : Atom) → leb (b .element) 118 ≡ true → leb (b .hetero) 1 ≡ true → goodValues (withoutFloats b) ≡ true
+unfolding goodValues withoutFloats ofBits
+bare-values b e h = λ i. all finite (0 ∷ 0 ∷ 0 ∷ 0 ∷ 0 ∷ []) && e i && h i
+
+bare-name : (b : Atom) → nameColumns (withoutFloats b) ≡ nameColumns b
+unfolding nameColumns withoutFloats
+bare-name b = refl
+
+bare-element : (b : Atom) → elementColumns (withoutFloats b) ≡ elementColumns b
+unfolding elementColumns withoutFloats
+bare-element b = refl
+
+bare-named : (b : Atom) (w : Words) → w ≡ words 0 (withoutFloats b) → b .name ≡ getD w 2 0
+unfolding words withoutFloats
+bare-named b w e = ap (λ (v : Words). getD v 2 0) (sym e)
+
+good-line : (l : AtomLine) → goodValues (l .atom) ≡ true → goodLine l ≡ goodAbove (aboveIn l) && storedBy atomName (l .atom .name)
+unfolding goodLine goodFields
+good-line l v =
+    good-parts (storedBy chainId (l .chain .id)) (absentOr insertionCode (l .residue .code)) (storedBy conformerName (l .conformer .name)) (absentOr alternativeLocation (l .conformer .location)) (storedBy atomName (l .atom .name) && goodValues (l .atom))
+    ∙ ap (λ (t : Bool). goodAbove (aboveIn l) && (storedBy atomName (l .atom .name) && t)) v
+    ∙ ap (λ (t : Bool). goodAbove (aboveIn l) && t) (and-all (storedBy atomName (l .atom .name)))
+
+module _ (l : List ℕ) where
+  abbrev a : Atom
+  a = atomIn l .atom
+
+  abbrev bare : Words
+  bare = words 0 (withoutFloats a)
+
+  values-back : valueColumns a ≡ decimalColumns (decimalsIn l)
+  unfolding atomIn valueColumns decimalColumns decimalsIn
+  values-back =
+      let x = decimal-text 3 8 (drop 30 l) (lit≤ tt) (lit< tt) in
+      let y = decimal-text 3 8 (drop 38 l) (lit≤ tt) (lit< tt) in
+      let z = decimal-text 3 8 (drop 46 l) (lit≤ tt) (lit< tt) in
+      let o = decimal-text 2 6 (drop 54 l) (lit≤ tt) (lit< tt) in
+      let f = decimal-text 2 6 (drop 60 l) (lit≤ tt) (lit< tt) in
+      λ i. atRight 8 (x i) ∷ atRight 8 (y i) ∷ atRight 8 (z i) ∷ atRight 6 (o i) ∷ atRight 6 (f i) ∷ atLeft 10 [] ∷ []
+
+  finite-values : all finite (a .x ∷ a .y ∷ a .z ∷ a .occupancy ∷ a .«b_factor» ∷ []) ≡ true
+  unfolding atomIn
+  finite-values =
+      let x = finite-decimal 3 8 (drop 30 l) (lit≤ tt) (lit< tt) in
+      let y = finite-decimal 3 8 (drop 38 l) (lit≤ tt) (lit< tt) in
+      let z = finite-decimal 3 8 (drop 46 l) (lit≤ tt) (lit< tt) in
+      let o = finite-decimal 2 6 (drop 54 l) (lit≤ tt) (lit< tt) in
+      let f = finite-decimal 2 6 (drop 60 l) (lit≤ tt) (lit< tt) in
+      λ i. x i && (y i && (z i && (o i && (f i && true))))
+
+  good-element : leb (a .element) 118 ≡ true
+  unfolding atomIn
+  good-element = le-leb (elementOf (take 2 (drop 76 l))) 118 (element-within (take 2 (drop 76 l)))
+
+  good-hetero : leb (a .hetero) 1 ≡ true
+  unfolding atomIn
+  good-hetero = go (eqb (getD l 0 0) 72)
+    where
+      go : (t : Bool) → leb (cond t 1 0) 1 ≡ true
+      go true = refl
+      go false = refl
+
+  -- "the values are good", whatever stands in the line
+  good-read : goodValues a ≡ true
+  unfolding goodValues
+  good-read = λ i. finite-values i && good-element i && good-hetero i
+
+  bare-back : fieldsOf 0 bare ≡ withoutFloats a
+  unfolding words fieldsOf
+  bare-back = refl
+
+  pub bare-good : (w : Words) → w ≡ words 0 (withoutFloats (atomIn l .atom)) → GoodAtom w
+  bare-good w e = subst GoodAtom (sym e) (record { size = size; good = ap goodValues bare-back ∙ good })
+    where
+      size : length bare ≡ 12
+      size = bare-size (withoutFloats a)
+
+      good : goodValues (withoutFloats a) ≡ true
+      good = bare-values a good-element good-hetero
+
+  line-of : columnsAt (aboveIn (atomIn l)) bare (decimalsIn l) ≡ atomColumns (atomIn l)
+  unfolding atomColumns
+  line-of =
+      (λ i. nameColumns (bare-back i) ++ (placeOf (aboveIn (atomIn l)) ++ (sym values-back i ++ elementColumns (bare-back i))))
+      ∙ (λ i. bare-name a i ++ (placeOf (aboveIn (atomIn l)) ++ (valueColumns a ++ bare-element a i)))
+
+  module _ (u : Above) (w : Words) (c d : Bool) (f : u ≡ aboveIn (atomIn l)) (g : w ≡ words 0 (withoutFloats (atomIn l .atom))) (h : c ≡ goodAbove u) (k : d ≡ storedBy atomName (getD w 2 0)) where
+    is-good : goodLine (atomIn l) ≡ c && d
+    is-good = good-line (atomIn l) good-read ∙ (λ i. goodAbove (sym f i) && storedBy atomName (bare-named a w g i)) ∙ (λ i. sym h i && sym k i)
+
+    pub taken-written : (ds : Decimals) (r : Bool) → ds ≡ decimalsIn l → r ≡ all fitting (columnsAt u w ds) && same (lineOf (columnsAt u w ds)) l → c && d ≡ true → r ≡ takenAtom l
+    unfolding takenAtom
+    taken-written ds r e x y =
+        let z : columnsAt u w ds ≡ atomColumns (atomIn l) = (λ i. columnsAt (f i) (g i) (e i)) ∙ line-of in
+        x
+        ∙ ap (λ (cs : List Column). all fitting cs && same (lineOf cs) l) z
+        ∙ ap (λ (t : Bool). t && (all fitting (atomColumns (atomIn l)) && same (lineOf (atomColumns (atomIn l))) l)) (sym (is-good ∙ y))
+
+    pub taken-bad : c && d ≡ false → false ≡ takenAtom l
+    unfolding takenAtom
+    taken-bad y = ap (λ (t : Bool). t && (all fitting (atomColumns (atomIn l)) && same (lineOf (atomColumns (atomIn l))) l)) (sym (is-good ∙ y))
 
 -- MODEL and ENDMDL
 

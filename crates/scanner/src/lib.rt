@@ -8,15 +8,16 @@ ghost use lib.ListN.{length};
 ghost use lib.Ieee.{binary64, round, toBits};
 ghost use Rattle.machine.specs.Lists.{all, same};
 ghost use Rattle.machine.specs.Record.{words};
-ghost use Rattle.machine.specs.Edit.{newAtom};
-ghost use Rattle.machine.specs.Lines.{fitting, atomColumns, lineOf};
+ghost use Rattle.machine.specs.Lines.{fitting, lineOf};
 ghost use Rattle.machine.specs.LinesIn.{withFigure, figures, hasMinus, signedBits, word, atomIn, modelIn};
 ghost use Rattle.lines.specs.Taken.{takenAtom, takenModel, takenEnd};
 ghost use Rattle.building.specs.Prepared.{preparedOf};
 ghost use Rattle.building.specs.Lacks.{lacks};
-ghost use Rattle.columns.specs.Put.{GoodAtom, lineAt};
-ghost use Rattle.scanner.specs.Scan.{valuesOf, aboveOf, aboveIn, goodAbove, lacksAbove};
+ghost use Rattle.columns.specs.Put.{GoodAtom, columnsAt};
+ghost use Rattle.scanner.specs.Scan.{valuesOf, aboveIn, decimalIn, decimalsIn, withoutFloats, goodAbove, lacksAbove};
 use columns::Above;
+use columns::Decimal;
+use columns::Decimals;
 use machine::NewAtom;
 use machine::PreparedAddition;
 use machine::Record;
@@ -199,35 +200,48 @@ fn same_bytes(first: &[u8], second: &[u8]) -> bool
     equal
 }
 
-fn above_of(atom: PreparedAddition) -> Above
-    ensures { λ r. ⌜ r ≡ aboveOf atom ⌝ }
+// A decimal as it stands in its columns: no f64 is made of it to write it again.
+fn decimal_in(text: &[u8]) -> Decimal
+    requires { ⌜ length (now text) ≤ 8 ⌝ }
+    ensures { λ r. ⌜ r ≡ decimalIn (now (text .entry)) ⌝ }
 {
-    Above {
-        chain: atom.chain,
-        serial: atom.residue,
-        code: atom.code,
-        name: atom.conformer,
-        location: atom.location,
+    let number = number_in(text);
+    Decimal {
+        minus: number.minus & (0 < number.size),
+        size: number.size,
     }
 }
 
-// The twelve words of an addition's atom.
-fn record_of(atom: PreparedAddition) -> [u64; Record::WIDTH]
-    ensures { λ r. ⌜ r ≡ words 0 (newAtom atom) ⌝ }
+fn decimals_in(line: &[u8]) -> Decimals
+    requires { ⌜ length (now line) ≡ 81 ⌝ }
+    ensures { λ r. ⌜ r ≡ decimalsIn (now (line .entry)) ⌝ }
 {
-    let values = atom.values;
+    Decimals {
+        x: decimal_in(&line[30..38]),
+        y: decimal_in(&line[38..46]),
+        z: decimal_in(&line[46..54]),
+        occupancy: decimal_in(&line[54..60]),
+        b_factor: decimal_in(&line[60..66]),
+    }
+}
+
+// The twelve words of a line's atom, with 0 for the f64 values.
+fn words_in(line: &[u8]) -> [u64; Record::WIDTH]
+    requires { ⌜ length (now line) ≡ 81 ⌝ }
+    ensures { λ r. ⌜ r ≡ words 0 (withoutFloats (atomIn (now (line .entry)) .atom)) ⌝ }
+{
     [
         Record::ATOM,
-        values.serial,
-        atom.name,
-        values.x,
-        values.y,
-        values.z,
-        values.occupancy,
-        values.b_factor,
-        values.element,
-        values.charge,
-        values.hetero,
+        figures(&line[6..11]),
+        helper::trimmed_word(&line[12..16]),
+        0,
+        0,
+        0,
+        0,
+        0,
+        columns::element_of(line[76], line[77]),
+        signed_bits(&line[78..80]),
+        hetero_in(line[0]),
         0,
     ]
 }
@@ -243,27 +257,27 @@ fn good_above(above: Above) -> bool
 }
 
 // Whether an atom fits, and is written as this line.
-fn is_written(above: Above, atom: &[u64], line: &[u8]) -> bool
+fn is_written(above: Above, atom: &[u64], decimals: Decimals, line: &[u8]) -> bool
     requires { ⌜ GoodAtom (now atom) ⌝ }
     requires { ⌜ length (now line) ≡ 81 ⌝ }
-    ensures { λ r. ⌜ r ≡ all fitting (atomColumns (lineAt above (now (atom .entry)))) && same (lineOf (atomColumns (lineAt above (now (atom .entry))))) (now (line .entry)) ⌝ }
+    ensures { λ r. ⌜ r ≡ all fitting (columnsAt above (now (atom .entry)) decimals) && same (lineOf (columnsAt above (now (atom .entry)) decimals)) (now (line .entry)) ⌝ }
 {
-    if columns::fits_atom(above, atom) {
-        let again = columns::atom_line(above, atom);
+    if columns::fits_line(above, atom, decimals) {
+        let again = columns::decimal_line(above, atom, decimals);
         return same_bytes(&again, line);
     }
     false
 }
 
+// What is read of a line has good values whatever stands there: the names alone are asked for.
 pub fn taken_atom(line: &[u8]) -> bool
     requires { ⌜ length (now line) ≡ 81 ⌝ }
     ensures { λ r. ⌜ r ≡ takenAtom (now (line .entry)) ⌝ }
 {
-    let atom = atom_in(line);
-    let above = above_of(atom);
-    let words = record_of(atom);
-    if good_above(above) & records::good_atom(&words) {
-        return is_written(above, &words, line);
+    let above = above_in(line);
+    let words = words_in(line);
+    if good_above(above) & stored::stored_atom_name(words[Record::ATOM_NAME]) {
+        return is_written(above, &words, decimals_in(line), line);
     }
     false
 }

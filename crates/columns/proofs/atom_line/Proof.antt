@@ -1,6 +1,6 @@
 -- `columns::atom_line` meets its contract. Assumes nothing.
 use borrow.Author.Needs.{needs}
-use Rattle.columns.proofs.Parts.{blank-size, parts-fit, atom-whole}
+use Rattle.columns.proofs.Parts.{atom-each, atom-decimals, atom-whole}
 use Rattle.columns.proofs.atom_line.Statement.{statement}
 use Rattle.columns.proofs.atom_line.Tie as tie
 
@@ -8,16 +8,19 @@ blank-line-requires : tie.Need-blank-line-requires
 blank-line-requires c κs = search needs
 
 put-name-columns-requires : tie.Need-put-name-columns-requires
-put-name-columns-requires c κs = let f = parts-fit _ _ (c .before .before .before .pre .1) in search (needs, blank-size, f .name)
+put-name-columns-requires c κs = let f = atom-each _ _ (c .before .before .before .pre .1) in search (needs, f .name)
 
 put-place-columns-requires : tie.Need-put-place-columns-requires
-put-place-columns-requires c κs = let f = parts-fit _ _ (c .before .before .before .before .before .pre .1) in search (needs, f .place)
+put-place-columns-requires c κs = let f = atom-each _ _ (c .before .before .before .before .before .pre .1) in search (needs, f .place)
 
-put-value-columns-requires : tie.Need-put-value-columns-requires
-put-value-columns-requires c κs = let f = parts-fit _ _ (c .before .before .before .before .before .before .before .pre .1) in search (needs, f .values)
+decimals-of-requires : tie.Need-decimals-of-requires
+decimals-of-requires c κs = search needs
+
+put-decimals-requires : tie.Need-put-decimals-requires
+put-decimals-requires c κs = search (needs, atom-decimals)
 
 put-element-columns-requires : tie.Need-put-element-columns-requires
-put-element-columns-requires c κs = let f = parts-fit _ _ (c .before .before .before .before .before .before .before .before .before .pre .1) in search (needs, f .element)
+put-element-columns-requires c κs = let f = atom-each _ _ (c .before .before .before .before .before .before .before .before .before .before .pre .1) in search (needs, f .element)
 
 returns : tie.Need-returns
 returns c = search (needs, atom-whole)
@@ -29,6 +32,7 @@ atom-line-spec =
     blank-line-requires
     put-name-columns-requires
     put-place-columns-requires
-    put-value-columns-requires
+    decimals-of-requires
+    put-decimals-requires
     put-element-columns-requires
     returns)

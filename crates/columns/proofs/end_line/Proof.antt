@@ -1,6 +1,6 @@
 -- `columns::end_line` meets its contract. Assumes nothing.
 use borrow.Author.Needs.{needs}
-use Rattle.columns.proofs.Parts.{blank-size, end-whole}
+use Rattle.columns.proofs.Parts.{end-whole}
 use Rattle.columns.proofs.end_line.Statement.{statement}
 use Rattle.columns.proofs.end_line.Tie as tie
 
@@ -8,7 +8,7 @@ blank-line-requires : tie.Need-blank-line-requires
 blank-line-requires c κs = search needs
 
 put-word-requires : tie.Need-put-word-requires
-put-word-requires c κs = search (needs, blank-size)
+put-word-requires c κs = search needs
 
 returns : tie.Need-returns
 returns c = search (needs, end-whole)

@@ -4,11 +4,11 @@ use borrow.Author.Needs.{needs}
 use Rattle.scanner.proofs.is_written.Statement.{statement}
 use Rattle.scanner.proofs.is_written.Tie as tie
 
-fits-atom-requires : tie.Need-fits-atom-requires
-fits-atom-requires c κs = search needs
+fits-line-requires : tie.Need-fits-line-requires
+fits-line-requires c κs = search needs
 
-atom-line-requires : tie.Need-atom-line-requires
-atom-line-requires c κs = search (needs, fits-then)
+decimal-line-requires : tie.Need-decimal-line-requires
+decimal-line-requires c κs = search (needs, fits-then)
 
 slice-aggregate-same-bytes : tie.Need-slice-aggregate-same-bytes
 slice-aggregate-same-bytes c = search needs
@@ -26,8 +26,8 @@ pub is-written-spec : {M : Type 1} → statement M
 is-written-spec =
     tie.close
     (tie.spec
-    fits-atom-requires
-    atom-line-requires
+    fits-line-requires
+    decimal-line-requires
     slice-aggregate-same-bytes
     same-bytes-requires
     returns

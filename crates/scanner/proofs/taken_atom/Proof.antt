@@ -1,32 +1,32 @@
 -- `scanner::taken_atom` is `takenAtom`. Assumes nothing.
-use Rattle.scanner.proofs.Laws.{good-atom, taken-written, taken-bad}
+use Rattle.scanner.proofs.Laws.{bare-good, taken-written, taken-bad}
 use borrow.Author.Needs.{needs}
 use Rattle.scanner.proofs.taken_atom.Statement.{statement}
 use Rattle.scanner.proofs.taken_atom.Tie as tie
 
-atom-in-requires : tie.Need-atom-in-requires
-atom-in-requires c κs = search needs
+above-in-requires : tie.Need-above-in-requires
+above-in-requires c κs = search needs
 
-above-of-requires : tie.Need-above-of-requires
-above-of-requires c κs = search needs
-
-record-of-requires : tie.Need-record-of-requires
-record-of-requires c κs = search needs
+words-in-requires : tie.Need-words-in-requires
+words-in-requires c κs = search needs
 
 good-above-requires : tie.Need-good-above-requires
 good-above-requires c κs = search needs
 
-slice-aggregate-good-atom : tie.Need-slice-aggregate-good-atom
-slice-aggregate-good-atom c = search needs
+array-read-stored-atom-name : tie.Need-array-read-stored-atom-name
+array-read-stored-atom-name c = search needs
 
-good-atom-requires : tie.Need-good-atom-requires
-good-atom-requires c κs = search needs
+stored-atom-name-requires : tie.Need-stored-atom-name-requires
+stored-atom-name-requires c κs = search needs
 
 slice-aggregate-is-written : tie.Need-slice-aggregate-is-written
 slice-aggregate-is-written c = search needs
 
+decimals-in-requires : tie.Need-decimals-in-requires
+decimals-in-requires c κs = search needs
+
 is-written-requires : tie.Need-is-written-requires
-is-written-requires c κs = search (needs, good-atom)
+is-written-requires c κs = search (needs, bare-good)
 
 returns : tie.Need-returns
 returns c = search (needs, taken-written)
@@ -38,13 +38,13 @@ pub taken-atom-spec : {M : Type 1} → statement M
 taken-atom-spec =
     tie.close
     (tie.spec
-    atom-in-requires
-    above-of-requires
-    record-of-requires
+    above-in-requires
+    words-in-requires
     good-above-requires
-    slice-aggregate-good-atom
-    good-atom-requires
+    array-read-stored-atom-name
+    stored-atom-name-requires
     slice-aggregate-is-written
+    decimals-in-requires
     is-written-requires
     returns
     returns-2)
