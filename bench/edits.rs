@@ -34,16 +34,6 @@ fn set_element(name: &'static str, residues: u64, last: &AtomAt) -> Edit {
     Edit { before: Some(Box::new(add("", "XX", 0, last))), ..set }
 }
 
-// Of a conformer that isn't modified.
-fn set_modification(name: &'static str, residues: u64) -> Edit {
-    let [chain, residue] = [store::CHAINS - 1, residues - 1];
-    let (standard, comment) = store::MODIFICATION;
-    edit(name, Call::SetModification([0, chain, residue, 0], standard.into(), comment.into()), move |m| {
-        let residue = m.chain_mut(chain as usize).unwrap().residue_mut(residue as usize).unwrap();
-        residue.conformer_mut(0).unwrap().set_modification((standard.into(), comment.into())).unwrap();
-    })
-}
-
 pub fn edits(residues: u64) -> Vec<Edit> {
     let atoms = store::atoms(residues);
     let ca = || Search::Single(Term::AtomName("CA".into()));
@@ -64,7 +54,6 @@ pub fn edits(residues: u64) -> Vec<Edit> {
             m.remove_atoms_by(|a| search.add_atom_info(a).complete() == Some(true));
         }),
         set_element("set_element, of the last atom", residues, atoms.last().unwrap()),
-        set_modification("set_modification, last conformer", residues),
     ]
 }
 

@@ -84,19 +84,6 @@ pub fn words(residues: u64, spare: usize) -> Vec<u64> {
     w
 }
 
-// A standard name, and a comment of 20 bytes.
-pub const MODIFICATION: (&str, &str) = ("MET", "selenium, not sulfur");
-
-// The same words with every conformer modified.
-pub fn modified(mut words: Vec<u64>) -> Vec<u64> {
-    let (name, comment) = MODIFICATION;
-    let modification = [pack(name), pack(&comment[..8]), pack(&comment[8..16]), pack(&comment[16..])];
-    for record in words.chunks_exact_mut(12).filter(|record| record[0] == 4) {
-        record[3..7].copy_from_slice(&modification);
-    }
-    words
-}
-
 // The words of so many such models, all alike, with no room to spare.
 pub fn models(models: usize, residues: u64) -> Vec<u64> {
     let one = words(residues, 0);

@@ -31,7 +31,7 @@
 
 /* The version of this header, as one number too: major * 1,000,000 + minor * 1,000 + patch. */
 #define JUBRELTI_VERSION_MAJOR 0
-#define JUBRELTI_VERSION_MINOR 11
+#define JUBRELTI_VERSION_MINOR 10
 #define JUBRELTI_VERSION_PATCH 0
 #define JUBRELTI_VERSION (JUBRELTI_VERSION_MAJOR * 1000000 + JUBRELTI_VERSION_MINOR * 1000 + JUBRELTI_VERSION_PATCH)
 
@@ -46,8 +46,8 @@
 extern "C" {
 #endif
 
-/* Results. They are checked in the order 1, 2, 5, 9, then 3 (length), 4, 3 (shape), 6, 14, 15, 16, 18, 7, 17, 8, 12, 13, 10. The
-   program `find` alone gives 11, and jubrelti_apply alone 22 and 23, after 1 and 2. */
+/* Results. They are checked in the order 1, 2, 5, 9, then 3 (length), 4, 3 (shape), 6, 14, 15, 16, 7, 17, 8, 12, 13, 10. The program
+   `find` alone gives 11, and jubrelti_apply alone 22 and 23, after 1 and 2. */
 enum {
     /* bindings/tables: results */
     JUBRELTI_DONE = 0,
@@ -72,7 +72,6 @@ enum {
                                          above 1 */
     JUBRELTI_BAD_ATOM_NAME = 16,      /* a bad atom name */
     JUBRELTI_BAD_TEXT = 17,           /* a text that the writer could not have made */
-    JUBRELTI_BAD_MODIFICATION = 18,   /* a bad standard name or comment of a modification */
     JUBRELTI_BAD_LIST = 22,           /* the words are not a well-formed list of edits */
     JUBRELTI_SHORT_ANSWERS = 23       /* the output is shorter than three words for each edit */
     /* bindings/tables: end of results */
@@ -269,13 +268,6 @@ JubreltiEdit jubrelti_join_conformers(uint64_t *store, size_t length, uint64_t m
 JubreltiEdit jubrelti_set_element(uint64_t *store, size_t length, uint64_t model, uint64_t chain, uint64_t residue,
                                   uint64_t conformer, uint64_t atom, uint64_t element);
 
-/* Sets a conformer's modification: its standard name, as MET of a selenomethionine, of 1 to 8 bytes, and a comment of at most 64, each
-   byte 32 to 126. Both are kept as given, neither trimmed nor raised, and replace those that it had. The hits of a tree stay what they
-   were. */
-JubreltiEdit jubrelti_set_modification(uint64_t *JUBRELTI_RESTRICT store, size_t length, uint64_t model, uint64_t chain,
-                                       uint64_t residue, uint64_t conformer, const uint8_t *JUBRELTI_RESTRICT name,
-                                       size_t name_length, const uint8_t *JUBRELTI_RESTRICT comment, size_t comment_length);
-
 /* ---- a list of edits */
 
 /* Codes of the edits in a list; docs/FORMATS.md has the words of each. */
@@ -296,8 +288,7 @@ enum {
     JUBRELTI_JOIN_CHAINS = 14,
     JUBRELTI_JOIN_RESIDUES = 15,
     JUBRELTI_JOIN_CONFORMERS = 16,
-    JUBRELTI_SET_ELEMENT = 17,
-    JUBRELTI_SET_MODIFICATION = 18
+    JUBRELTI_SET_ELEMENT = 17
 };
 
 typedef struct {
@@ -432,9 +423,6 @@ static const struct {
     {JUBRELTI_BAD_TEXT,
      "the text isn't PDB lines as write_pdb writes them; give each line 80 columns and a newline, MODEL and ENDMDL around the "
      "atoms of each model and no other lines, and each field its columns of docs/FORMATS.md"},
-    {JUBRELTI_BAD_MODIFICATION,
-     "the modification's standard name or its comment is bad; give the name 1 to 8 printable ASCII characters and the comment at "
-     "most 64, counting spaces at the ends"},
     {JUBRELTI_BAD_LIST,
      "the list isn't well-formed, or an edit in it has over 1,024 words; give each edit the words of its code, and shorten its "
      "texts or its search"},
@@ -502,20 +490,6 @@ static inline const char *jubrelti_conformer_name(const uint64_t *store, uint64_
 
 static inline const char *jubrelti_conformer_alternative_location(const uint64_t *store, uint64_t r, char out[9]) {
     return jubrelti_unpack(jubrelti_record_word(store, r, 2), out);
-}
-
-/* The standard name of a modified conformer; empty for one that isn't modified. */
-static inline const char *jubrelti_conformer_standard_name(const uint64_t *store, uint64_t r, char out[9]) {
-    return jubrelti_unpack(jubrelti_record_word(store, r, 3), out);
-}
-
-/* The comment of its modification, eight bytes from each of its words. */
-static inline const char *jubrelti_conformer_comment(const uint64_t *store, uint64_t r, char out[65]) {
-    size_t i;
-    for (i = 0; i < 8; i++) {
-        jubrelti_unpack(jubrelti_record_word(store, r, 4 + i), out + 8 * i);
-    }
-    return out;
 }
 
 static inline uint64_t jubrelti_atom_serial_number(const uint64_t *store, uint64_t r) {

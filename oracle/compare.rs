@@ -1,7 +1,6 @@
 // compare [SEED] [LISTS] [READER]: the port beside pdbtbx's own files and a plain reading of document 01: small texts, bad names, trees,
-// starts, elements, modifications and floats in full, then random lists of calls, each also as one call; and its PDB lines, written and read,
-// beside plain readings of change requests §1 and §9 and, where the program READER is given, read back by gemmi. Run it in the repository's
-// folder.
+// starts, elements and floats in full, then random lists of calls, each also as one call; and its PDB lines, written and read, beside plain
+// readings of change requests §1 and §9 and, where the program READER is given, read back by gemmi. Run it in the repository's folder.
 mod elements;
 mod files;
 mod fitting;
@@ -12,7 +11,6 @@ mod judges;
 mod junk;
 mod lines_in;
 mod list;
-mod modifications;
 mod names;
 #[macro_use]
 mod original;
@@ -61,10 +59,7 @@ struct Totals {
     counts: Counts,
     // Stored hetero atoms in conformers with one of the 31 names, at the ends of the lists.
     soaked: u64,
-    // Modified conformers, at the ends of the lists.
-    modified: u64,
     elements: elements::Counts,
-    modifications: modifications::Counts,
     stores: Spoilt,
     reads: reading::Counts,
     writes: writing::Counts,
@@ -72,17 +67,14 @@ struct Totals {
 
 // One random list; the number of spoilt ones made from it. The package reads at its end and at every eighth call.
 fn list(r: &mut Random, totals: &mut Totals) -> u64 {
-    let Totals { counts, soaked, modified, elements, modifications, stores, reads, writes } = totals;
+    let Totals { counts, soaked, elements, stores, reads, writes } = totals;
     let length = 1 + r.below(30 * 12) as usize;
     let mut sides = Sides::open((0..length).map(|_| r.word()).collect());
     let (mut calls, mut answers) = (Vec::new(), Vec::new());
     for step in 0..r.below(60) {
         let call = r.call(&sides.judges.machine);
-        let e = match &call {
-            Call::SetElement(p, element) => elements::compare_random(r, &mut sides, (*p, *element), counts, elements),
-            Call::SetModification(p, name, comment) => {
-                modifications::compare_random(r, &mut sides, (*p, name, comment), counts, modifications)
-            }
+        let e = match call {
+            Call::SetElement(p, element) => elements::compare_random(r, &mut sides, (p, element), counts, elements),
             _ => sides.edit(&call, counts),
         };
         answers.extend([e.result, e.found, e.removed]);
@@ -102,7 +94,6 @@ fn list(r: &mut Random, totals: &mut Totals) -> u64 {
         }
     }
     *soaked += hetero::under_amino_names(&sides.judges.machine);
-    *modified += modifications::modified(&sides.judges.machine);
     reading::compare(&sides, reads);
     writing::compare(&sides.store, &sides.judges.machine, writes);
     let other = r.below(30 * 12);
@@ -123,7 +114,6 @@ fn main() {
     trees::compare().print("small trees in full");
     starts::compare();
     elements::compare();
-    modifications::compare();
     floats::compare().print("floats, each against each");
     floats::compare_classes();
     writing::compare_formatting(&mut Random::new(seed)).print();
@@ -132,11 +122,10 @@ fn main() {
     let mut totals = Totals::default();
     let random = |i: u64| Random::new(seed.wrapping_mul(1_000_003).wrapping_add(i));
     let spoilt: u64 = (0..lists).map(|i| list(&mut random(i), &mut totals)).sum();
-    let Totals { counts, soaked, modified, elements, modifications, stores, mut reads, writes } = totals;
+    let Totals { counts, soaked, elements, stores, mut reads, writes } = totals;
     counts.print(&format!("seed {seed}, {lists} random lists and {spoilt} spoilt ones"));
-    println!("  hetero atoms under names of amino acids, at the ends of the lists: {soaked}; modified conformers: {modified}");
+    println!("  hetero atoms under names of amino acids, at the ends of the lists: {soaked}");
     elements.print();
-    modifications.print();
     stores.print("the stores that they leave, each spoilt in four ways");
     let mut places = Counts::default();
     (0..lists / 10).for_each(|i| reading::compare_places(&mut random(i), &mut places, &mut reads));

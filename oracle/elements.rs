@@ -42,10 +42,10 @@ impl Counts {
 type Setting = ([u64; 5], u64);
 
 // A start and a tree.
-pub type Query = (Vec<u64>, Vec<u64>);
+type Query = (Vec<u64>, Vec<u64>);
 
 // None where the find is refused.
-pub fn hits(sides: &Sides, (start, tree): &Query) -> Option<Vec<u64>> {
+fn hits(sides: &Sides, (start, tree): &Query) -> Option<Vec<u64>> {
     let (answer, mut out) = sides.find_out(start, tree, sides.store.len(), &mut sides::Counts::default());
     out.truncate(5 * answer.hits as usize);
     (answer.result == 0).then_some(out)
@@ -88,22 +88,20 @@ fn set(sides: &mut Sides, (p, element): Setting, queries: &[Query], edits: &mut 
     e
 }
 
-// Four random trees, most of them joined with a term of this code, from starts that mostly hold the conformer.
-pub fn queries(r: &mut Random, sides: &Sides, conformer: &[u64], code: u64) -> [Query; 4] {
-    std::array::from_fn(|_| {
-        let start = if r.one_in(4) { r.start(&sides.judges.machine) } else { conformer[..r.below(5) as usize].to_vec() };
+// Four random trees, most of them joined with an element, from starts that mostly hold the position.
+pub fn compare_random(r: &mut Random, sides: &mut Sides, new: Setting, edits: &mut sides::Counts, counts: &mut Counts) -> Edit {
+    let (p, _) = new;
+    let mut query = || {
+        let start = if r.one_in(4) { r.start(&sides.judges.machine) } else { p[..r.below(5) as usize].to_vec() };
         let mut tree = r.tree();
         if !r.one_in(4) {
-            tree.extend(r.node(code));
+            tree.extend(r.node(15));
             tree.extend([26, 0, 0].repeat(r.below(2) as usize));
             tree.extend([23 + r.below(3), 0, 0]);
         }
         (start, tree)
-    })
-}
-
-pub fn compare_random(r: &mut Random, sides: &mut Sides, new: Setting, edits: &mut sides::Counts, counts: &mut Counts) -> Edit {
-    let queries = queries(r, sides, &new.0[..4], 15);
+    };
+    let queries = [query(), query(), query(), query()];
     set(sides, new, &queries, edits, counts)
 }
 

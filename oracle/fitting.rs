@@ -80,8 +80,6 @@ pub fn machine(r: &mut Random, wide: Wide) -> Machine {
                 conformers: some(r, 2, |r| Conformer {
                     name: raised(r, 1, 3, wide),
                     location: raised(r, 0, 1, wide),
-                    // No column has it.
-                    modification: r.one_in(3).then(|| (bytes(r, 1, 8, None), bytes(r, 0, 64, None))),
                     atoms: some(r, 4, |r| atom(r, wide)),
                 }),
             }),

@@ -25,10 +25,6 @@ fn in_domain(call: &Call) -> bool {
         Call::RemoveResidueById(_, _, code) => given(code),
         Call::RemoveConformerById(_, name, location) => name.is_ascii() && given(location),
         Call::SetElement(_, element) => (1..=118).contains(element),
-        // As given, and not empty: "refused here, since 0 means none".
-        Call::SetModification(_, name, comment) => {
-            (1..=8).contains(&name.len()) && comment.len() <= 64 && name.is_ascii() && comment.is_ascii()
-        }
         _ => true,
     }
 }
@@ -44,7 +40,7 @@ impl Judges {
         let answer = plain::edit(&mut self.machine, self.length, call);
         let in_domain = in_domain(call);
         if in_domain && answer.result != 5 {
-            let refused = if matches!(answer.result, 6 | 7 | 14 | 15 | 16 | 18) { answer.result } else { 0 };
+            let refused = if matches!(answer.result, 6 | 7 | 14 | 15 | 16) { answer.result } else { 0 };
             assert_eq!(original::refusal(call), refused, "the crate's refusal of {call:?}");
         }
         if answer.result != 0 {

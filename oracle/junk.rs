@@ -30,7 +30,6 @@ fn call(code: u64, words: &[u64]) -> Option<Call> {
         9 => (4, 2),
         15 | 17 => (6, 0),
         16 => (8, 0),
-        18 => (4, 2),
         _ => return None,
     };
     let n = words.get(..numbers)?;
@@ -73,8 +72,7 @@ fn call(code: u64, words: &[u64]) -> Option<Call> {
         14 => Call::JoinChains([n[0], n[1]], [n[2], n[3]]),
         15 => Call::JoinResidues([n[0], n[1], n[2]], [n[3], n[4], n[5]]),
         16 => Call::JoinConformers([n[0], n[1], n[2], n[3]], [n[4], n[5], n[6], n[7]]),
-        17 => Call::SetElement([n[0], n[1], n[2], n[3], n[4]], n[5]),
-        _ => Call::SetModification([n[0], n[1], n[2], n[3]], text(0), text(1)),
+        _ => Call::SetElement([n[0], n[1], n[2], n[3], n[4]], n[5]),
     })
 }
 
@@ -129,7 +127,6 @@ pub fn headers() -> u64 {
         Call::RemoveAtomsBy(0, vec![28, 0, 0]),
         Call::JoinConformers([0; 4], [0, 0, 0, 1]),
         Call::SetElement([0; 5], 7),
-        Call::SetModification([0; 4], b"MET".to_vec(), b"Se".to_vec()),
     ];
     let lists: Vec<Vec<u64>> = calls.iter().map(list::words).collect();
     let words = lists.concat();

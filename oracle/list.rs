@@ -27,7 +27,6 @@ pub fn words(call: &Call) -> Vec<u64> {
         Call::JoinResidues(p, q) => (15, [*p, *q].concat(), vec![]),
         Call::JoinConformers(p, q) => (16, [*p, *q].concat(), vec![]),
         Call::SetElement(p, element) => (17, [&p[..], &[*element]].concat(), vec![]),
-        Call::SetModification(p, name, comment) => (18, p.to_vec(), vec![bytes(name), bytes(comment)]),
     };
     let parts = parts.iter().flat_map(|p| std::iter::once(p.len() as u64).chain(p.iter().copied()));
     let body: Vec<u64> = numbers.iter().copied().chain(parts).collect();

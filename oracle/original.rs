@@ -42,17 +42,9 @@ fn atom(name: &[u8], v: &NewAtom) -> Option<Atom> {
     Some(unnamed)
 }
 
-fn modification(name: &[u8], comment: &[u8]) -> (String, String) {
-    (text(name).to_owned(), text(comment).to_owned())
-}
-
 // The refusal that the crate's own constructors, as `add_atom` calls them, give to an addition: by the first level that can't be made, or by
-// the atom's floats; and the crate's error of a modification, which is the same at any conformer; else 0.
+// the atom's floats; else 0.
 pub fn refusal(call: &Call) -> u64 {
-    if let Call::SetModification(_, name, comment) = call {
-        let set = Conformer::new("ALA", None, None).unwrap().set_modification(modification(name, comment));
-        return if set.is_err() { 18 } else { 0 };
-    }
     let Call::AddAtom { chain, code, conformer, location, name, values, .. } = call else {
         return 0;
     };
@@ -137,7 +129,6 @@ pub fn edit(p: &mut PDB, call: &Call) -> bool {
             }
             return is_missing;
         }
-        Call::SetModification(at, name, comment) => conformer(p, at).set_modification(modification(name, comment)).unwrap(),
     }
     true
 }
@@ -163,7 +154,6 @@ pub fn machine(p: &PDB) -> plain::Machine {
     let conformer = |f: &Conformer| plain::Conformer {
         name: pack(f.name()),
         location: maybe(f.alternative_location()),
-        modification: f.modification().map(|(name, comment)| (name.clone().into_bytes(), comment.clone().into_bytes())),
         atoms: f.atoms().map(atom).collect(),
     };
     let residue = |r: &Residue| plain::Residue {

@@ -11,8 +11,6 @@ pub struct Atom {
 pub struct Conformer {
     pub name: u64,
     pub location: u64,
-    // The standard name, and the comment.
-    pub modification: Option<(Vec<u8>, Vec<u8>)>,
     pub atoms: Vec<Atom>,
 }
 
@@ -101,11 +99,6 @@ fn atom_name(text: &[u8]) -> Option<u64> {
     if good(t) { packed(t, true) } else { None }
 }
 
-// Change request §10: both as given, "one over 8 bytes as given is bad", and "An empty standard name is refused here".
-fn good_modification(name: &[u8], comment: &[u8]) -> bool {
-    good(name) && (1..=8).contains(&name.len()) && good(comment) && comment.len() <= 64
-}
-
 fn matches(text: &[u8], word: u64) -> bool {
     !text.is_empty() && text == text_of(word)
 }
@@ -121,16 +114,6 @@ fn record(words: &mut Vec<u64>, fields: &[u64]) {
     words.resize(words.len() + 12 - fields.len(), 0);
 }
 
-// "word 3 the standard name, words 4 to 11 a comment .. eight to a word from the highest byte down"
-fn conformer_fields(f: &Conformer) -> Vec<u64> {
-    let mut fields = vec![4, f.name, f.location];
-    if let Some((name, comment)) = &f.modification {
-        fields.push(pack(name));
-        fields.extend(comment.chunks(8).map(pack));
-    }
-    fields
-}
-
 pub fn records(m: &Machine) -> Vec<u64> {
     let mut w = Vec::new();
     for model in m {
@@ -140,7 +123,7 @@ pub fn records(m: &Machine) -> Vec<u64> {
             for residue in &chain.residues {
                 record(&mut w, &[3, residue.serial, residue.code]);
                 for conformer in &residue.conformers {
-                    record(&mut w, &conformer_fields(conformer));
+                    record(&mut w, &[4, conformer.name, conformer.location]);
                     for atom in &conformer.atoms {
                         let v = &atom.values;
                         let fields = [5, v.serial, atom.name, v.x, v.y, v.z, v.occupancy, v.b_factor, v.element, v.charge, v.hetero];
@@ -174,12 +157,6 @@ fn is_stored_or_absent(word: u64) -> bool {
     word == 0 || is_stored(word, raised_name)
 }
 
-// The modification of a conformer's words; its comment ends at the first zero byte.
-fn modification_in(w: &[u64]) -> Option<(Vec<u8>, Vec<u8>)> {
-    let comment = w[4..].iter().flat_map(|word| word.to_be_bytes()).take_while(|b| *b != 0).collect();
-    (w[3] != 0).then(|| (text_of(w[3]), comment))
-}
-
 // Below what stands last; none without a parent, or where a word isn't good.
 fn put(m: &mut Machine, w: &[u64]) -> Option<()> {
     if w[0] == 1 {
@@ -198,10 +175,8 @@ fn put(m: &mut Machine, w: &[u64]) -> Option<()> {
     }
     let conformers = &mut residues.last_mut()?.conformers;
     if w[0] == 4 {
-        let modification = modification_in(w);
-        let is_good = modification.as_ref().is_none_or(|(name, comment)| good_modification(name, comment));
-        conformers.push(Conformer { name: w[1], location: w[2], modification, atoms: Vec::new() });
-        return (is_stored(w[1], raised_name) && is_stored_or_absent(w[2]) && is_good).then_some(());
+        conformers.push(Conformer { name: w[1], location: w[2], atoms: Vec::new() });
+        return (is_stored(w[1], raised_name) && is_stored_or_absent(w[2])).then_some(());
     }
     let [serial, name, x, y, z, occupancy, b_factor, element, charge, hetero] = w[1..11].try_into().unwrap();
     let values = NewAtom { serial, x, y, z, occupancy, b_factor, element, charge, hetero };
@@ -313,7 +288,7 @@ fn add_atom(
     });
     let conformers = &mut residues[r].conformers;
     let f = f.unwrap_or_else(|| {
-        conformers.push(Conformer { name: conformer_name, location: location_word, modification: None, atoms: Vec::new() });
+        conformers.push(Conformer { name: conformer_name, location: location_word, atoms: Vec::new() });
         conformers.len() - 1
     });
     conformers[f].atoms.push(Atom { name, values: *v });
@@ -405,14 +380,6 @@ pub fn step(m: &mut Machine, length: usize, call: &Call) -> Step {
                 }
                 _ => Ok(0),
             }
-        }
-        Call::SetModification(p, name, comment) => {
-            let conformer = conformer_at(m, p)?;
-            if !good_modification(name, comment) {
-                return Err(18);
-            }
-            conformer.modification = Some((name.clone(), comment.clone()));
-            Ok(1)
         }
     }
 }

@@ -35,7 +35,7 @@ pub fn find(store: &[u64], start: &[u64], tree: &[u64], out: &mut [u64]) -> Find
     }
 }
 
-// The eighteen edit calls, with the arguments other than the store.
+// The seventeen edit calls, with the arguments other than the store.
 #[derive(Clone, Debug, PartialEq)]
 pub enum Call {
     AddModel(u64),
@@ -55,8 +55,6 @@ pub enum Call {
     JoinResidues([u64; 3], [u64; 3]),
     JoinConformers([u64; 4], [u64; 4]),
     SetElement([u64; 5], u64),
-    // The standard name, and the comment.
-    SetModification([u64; 4], Vec<u8>, Vec<u8>),
 }
 
 impl Call {
@@ -91,6 +89,5 @@ pub fn edit(store: &mut [u64], call: &Call) -> Edit {
         Call::JoinResidues(p, q) => ffi::join_residues(store, *p, *q),
         Call::JoinConformers(p, q) => ffi::join_conformers(store, *p, *q),
         Call::SetElement(p, element) => ffi::set_element(store, *p, *element),
-        Call::SetModification(p, name, comment) => ffi::set_modification(store, *p, name, comment),
     }
 }

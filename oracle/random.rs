@@ -95,28 +95,6 @@ impl Random {
         }
     }
 
-    // Mostly of bytes 32 to 126, some of them blanks at the ends; else with one that isn't.
-    fn bytes(&mut self, length: u64) -> Vec<u8> {
-        let mut text: Vec<u8> = (0..length).map(|_| (32 + self.below(95)) as u8).collect();
-        if let (true, Some(end)) = (self.one_in(4), text.last_mut()) {
-            *end = b' ';
-        }
-        if let (true, Some(start)) = (self.one_in(4), text.first_mut()) {
-            *start = b' ';
-        }
-        if length > 0 && self.one_in(6) {
-            text[self.below(length) as usize] = self.pick(&[0, 10, 31, 127, 128, 255]);
-        }
-        text
-    }
-
-    // A standard name and a comment: of lengths at and beside the ends of the words that hold them.
-    fn modification(&mut self) -> [Vec<u8>; 2] {
-        let name = self.pick(&[0, 1, 3, 3, 3, 7, 8, 8, 9]);
-        let comment = self.pick(&[0, 0, 1, 7, 8, 9, 20, 20, 20, 56, 63, 64, 64, 65, 66]);
-        [name, comment].map(|length| self.bytes(length))
-    }
-
     // An index of a list of n, or one beyond.
     fn index(&mut self, n: usize) -> u64 {
         if n == 0 || self.one_in(30) { self.pick(&[n as u64, n as u64 + 1, u64::MAX]) } else { self.below(n as u64) }
@@ -183,7 +161,7 @@ impl Random {
         if m.is_empty() && !self.one_in(4) {
             return Call::AddModel(self.small());
         }
-        match self.below(46) {
+        match self.below(43) {
             1 => Call::RemoveChain(p2),
             2 => Call::RemoveResidue(p3),
             3 => Call::RemoveConformer(p4),
@@ -211,11 +189,7 @@ impl Random {
                 Call::JoinConformers(p, q)
             }
             15..=17 => Call::SetElement(self.to_fill(m), self.element()),
-            18..=20 => {
-                let [name, comment] = self.modification();
-                Call::SetModification(p4, name, comment)
-            }
-            0 | 21 | 22 => Call::AddModel(self.small()),
+            0 | 18 | 19 => Call::AddModel(self.small()),
             _ => Call::AddAtom {
                 model: p[0],
                 chain: self.text(&CHAINS),

@@ -104,10 +104,6 @@ macro_rules! same_bits {
     };
 }
 
-fn modifications(ours: &jubrelti::Conformer, theirs: &pdbtbx::Conformer) {
-    assert_eq!(ours.modification(), theirs.modification().map(|(name, comment)| (&name[..], &comment[..])), "modification");
-}
-
 struct Both<'a> {
     store: Store<&'a [u64]>,
     ours: HashMap<Address, usize>,
@@ -184,7 +180,6 @@ impl<'a> Both<'a> {
 
     fn conformer(&self, ours: &jubrelti::Conformer, theirs: &pdbtbx::Conformer) {
         same!(ours, theirs; name alternative_location id is_amino_acid atom_count to_string);
-        modifications(ours, theirs);
         same_lists!(self, ours, theirs; atoms atom);
         ours.atoms().zip(theirs.atoms()).for_each(|(a, b)| atoms(a, b));
         for serial in 0..6 {
@@ -264,7 +259,6 @@ impl<'a> Both<'a> {
         same!(ours.chain(), theirs.chain(); id);
         same!(ours.residue(), theirs.residue(); id);
         same!(ours.conformer(), theirs.conformer(); id);
-        modifications(ours.conformer(), theirs.conformer());
         atoms(ours.atom(), theirs.atom());
     }
 }

@@ -125,7 +125,7 @@ fn sample() -> Machine {
     let values = NewAtom { serial: 12, x: float(-1.5), y: float(12.25), occupancy: float(1.0), element: 6, ..NewAtom::default() };
     let ion = NewAtom { serial: 99_999, z: float(-999.999), b_factor: float(-9.5), element: 20, charge: 2, hetero: 1, ..values };
     let atoms = vec![atom(b"CA", values), atom(b"CA", ion), atom(b"HD11", NewAtom { element: 1, ..values }), atom(b"", NewAtom::default())];
-    let conformer = |name, location| Conformer { name: pack(name), location: pack(location), modification: None, atoms: atoms.clone() };
+    let conformer = |name, location| Conformer { name: pack(name), location: pack(location), atoms: atoms.clone() };
     let first = Residue { serial: (-7i64) as u64, code: pack(b"B"), conformers: vec![conformer(b"SER", b""), conformer(b"A", b"A")] };
     let chain = Chain { id: pack(b"a"), residues: vec![first] };
     vec![Model { serial: 12, chains: vec![chain] }, Model { serial: 0, chains: Vec::new() }]

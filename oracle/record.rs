@@ -16,7 +16,7 @@ use random::Random;
 use std::io::Write;
 
 // Accepted and refused calls of each code.
-type Counts = [[u64; 2]; 19];
+type Counts = [[u64; 2]; 18];
 
 fn case(r: &mut Random, calls: u64, counts: &mut Counts) -> Vec<u64> {
     let length = 13 + r.below(589);

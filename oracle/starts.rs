@@ -30,7 +30,7 @@ pub fn sample(atoms: [(&str, u64); 3]) -> Sides {
 }
 
 // A node of each term, which mostly tells parts of the sample apart, and of each constant; alone and under Not.
-pub fn nodes() -> Vec<Vec<u64>> {
+fn nodes() -> Vec<Vec<u64>> {
     let (a, ala, n, half, one) = (pack(b"A"), pack(b"ALA"), pack(b"N"), 0.5f64.to_bits(), 1f64.to_bits());
     let above =
         [[1, 2, 0], [2, 0, 1], [3, a, 0], [4, a, a], [5, 7, 0], [6, 8, 9], [7, 0, 0], [8, 8, 0], [9, ala, 0], [10, 0, 0], [11, ala, 0]];

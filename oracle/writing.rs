@@ -74,7 +74,7 @@ fn compare_machine(m: &Machine, counts: &mut Counts) {
 
 fn sample(values: NewAtom) -> Machine {
     let atom = Atom { name: pack(b"CA"), values };
-    let conformer = Conformer { name: pack(b"GLY"), location: 0, modification: None, atoms: vec![atom] };
+    let conformer = Conformer { name: pack(b"GLY"), location: 0, atoms: vec![atom] };
     let residue = Residue { serial: 7, code: 0, conformers: vec![conformer] };
     vec![Model { serial: 1, chains: vec![Chain { id: pack(b"A"), residues: vec![residue] }] }]
 }
@@ -194,7 +194,7 @@ fn halves(counts: &mut Counts) {
 fn without_lines(counts: &mut Counts) {
     let long = pack(b"TOOLONG");
     let empty = |conformers| Residue { serial: 1 << 40, code: long, conformers };
-    let unnamed = Conformer { name: long, location: long, modification: None, atoms: Vec::new() };
+    let unnamed = Conformer { name: long, location: long, atoms: Vec::new() };
     let chain = |residues| Chain { id: long, residues };
     let written = sample(NewAtom::default()).remove(0);
     for unwritten in [chain(vec![]), chain(vec![empty(vec![])]), chain(vec![empty(vec![unnamed])])] {

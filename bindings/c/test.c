@@ -230,64 +230,6 @@ static uint64_t add_texts(const char *chain, uint64_t code_flag, const char *con
     return edited.result;
 }
 
-/* Of a conformer of S, with NULL for an empty text. */
-static JubreltiEdit set_modification(uint64_t conformer, const char *name, const char *comment) {
-    return jubrelti_set_modification(store, LENGTH, 0, 0, 0, conformer, bytes(name), length_of(name), bytes(comment),
-                                     length_of(comment));
-}
-
-static void bad_modifications(void) {
-    const char *too_long = "This comment has sixty-five bytes, one more than eight words take";
-    uint64_t *before = junk(LENGTH);
-    open_s();
-    memcpy(before, store, LENGTH * sizeof *store);
-    expect("a standard name may not be empty", set_modification(0, NULL, NULL).result, JUBRELTI_BAD_MODIFICATION);
-    expect("nor have 9 bytes, with its blanks", set_modification(0, " MSE     ", NULL).result, JUBRELTI_BAD_MODIFICATION);
-    expect("nor a byte of 127", set_modification(0, "MET\x7f", NULL).result, JUBRELTI_BAD_MODIFICATION);
-    expect("a comment may not have a tab", set_modification(0, "MET", "Se\tfor S").result, JUBRELTI_BAD_MODIFICATION);
-    expect("nor 65 bytes", set_modification(0, "MET", too_long).result, JUBRELTI_BAD_MODIFICATION);
-    expect("nothing at the position comes first", set_modification(1, NULL, NULL).result, JUBRELTI_NO_POSITION);
-    expect("nothing changed", memcmp(before, store, LENGTH * sizeof *store) == 0, 1);
-    free(before);
-}
-
-static void modifications(void) {
-    const uint64_t backbone[] = {JUBRELTI_NODE_BACKBONE};
-    const char *longest = "This comment has sixty-four bytes, eight in each of eight words.";
-    char name[9], comment[65];
-    open_s();
-    expect_text("S has no standard name", jubrelti_conformer_standard_name(store, 3, name), "");
-    JubreltiEdit edited = set_modification(0, " Met", longest);
-    expect("set it", edited.result, JUBRELTI_DONE);
-    expect("it is found", edited.found, 1);
-    expect("no atom goes", edited.removed, 0);
-    expect_text("the name as given", jubrelti_conformer_standard_name(store, 3, name), " Met");
-    expect_text("the comment as given", jubrelti_conformer_comment(store, 3, comment), longest);
-    expect("set it again", set_modification(0, "HOH", "").found, 1);
-    expect_text("both are replaced", jubrelti_conformer_standard_name(store, 3, name), "HOH");
-    expect_text("by an empty comment", jubrelti_conformer_comment(store, 3, comment), "");
-    expect_text("the conformer's own name stays", jubrelti_conformer_name(store, 3, name), "ALA");
-    expect("hits of backbone stay", hits(backbone, 3), 1);
-    expect("a good store", jubrelti_check(store, LENGTH), JUBRELTI_DONE);
-    store[3 * 12 + 3] = 0;
-    store[3 * 12 + 4] = JUBRELTI_CHARS('S', 'e');
-    expect("a comment alone is none", jubrelti_check(store, LENGTH), JUBRELTI_BROKEN_LAYOUT);
-}
-
-static void modifications_in_a_list(void) {
-    const uint64_t list[] = {JUBRELTI_SET_MODIFICATION, 6, 0, 0, 0, 1, 0, 0,
-                             JUBRELTI_SET_MODIFICATION, 6, 0, 0, 0, 0, 0, 0,
-                             JUBRELTI_SET_MODIFICATION, 11, 0, 0, 0, 0, 3, 'M', 'E', 'T', 2, 'S', 'e'};
-    const uint64_t answers[] = {JUBRELTI_NO_POSITION, 0, 0, JUBRELTI_BAD_MODIFICATION, 0, 0, JUBRELTI_DONE, 1, 0};
-    open_s();
-    expect("set modifications", jubrelti_apply(store, LENGTH, list, JUBRELTI_LENGTH(list), out, OUT).calls, 3);
-    for (size_t i = 0; i < JUBRELTI_LENGTH(answers); i++) {
-        expect("answer", out[i], answers[i]);
-    }
-    expect("the standard name's word", store[3 * 12 + 3], JUBRELTI_CHARS('M', 'E', 'T'));
-    expect("the comment's first word", store[3 * 12 + 4], JUBRELTI_CHARS('S', 'e'));
-}
-
 /* NULL as a store, which is refused. */
 static void no_store(void) {
     const uint64_t all[] = {JUBRELTI_NODE_KNOWN_TRUE};
@@ -305,8 +247,6 @@ static void no_store(void) {
     expect("read lines into no words", jubrelti_read_pdb(NULL, 0, NULL, 0), JUBRELTI_BAD_LENGTH);
     expect("edit no words", jubrelti_add_model(NULL, 0, 1).result, JUBRELTI_BAD_LENGTH);
     expect("set an element in no words", jubrelti_set_element(NULL, 0, 0, 0, 0, 0, 0, 119).result, JUBRELTI_BAD_LENGTH);
-    expect("set a modification in no words", jubrelti_set_modification(NULL, 0, 0, 0, 0, 0, NULL, 0, NULL, 0).result,
-           JUBRELTI_BAD_LENGTH);
     expect("apply a list to no words", jubrelti_apply(NULL, 0, NULL, 0, NULL, 0).result, JUBRELTI_BAD_LENGTH);
 }
 
@@ -613,9 +553,6 @@ int main(void) {
     edit();
     elements();
     elements_in_a_list();
-    bad_modifications();
-    modifications();
-    modifications_in_a_list();
     no_store();
     no_texts();
     prepared_codes();

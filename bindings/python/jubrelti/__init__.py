@@ -5,7 +5,7 @@ This package is a thin layer over its C interface: it turns Python values into w
 else. It is tested, not proved.
 """
 
-__version__ = "0.11.0"
+__version__ = "0.10.0"
 
 from ._edits import Applied, Edited, Edits, NewAtom
 from ._errors import EditError, Error, LineError, QueryTextError, StaleHitError

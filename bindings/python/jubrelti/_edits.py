@@ -1,4 +1,4 @@
-"""The eighteen edits: their arguments as words, for a call of its own or for a list of edits (docs/FORMATS.md, "List of edits")."""
+"""The seventeen edits: their arguments as words, for a call of its own or for a list of edits (docs/FORMATS.md, "List of edits")."""
 
 from __future__ import annotations
 
@@ -16,7 +16,6 @@ Answer = TypeVar("Answer")
 Position = Sequence[int]
 ResidueIdentifier = Tuple[int, Optional[str]]
 ConformerIdentifier = Tuple[str, Optional[str]]
-Modification = Tuple[str, str]
 
 
 class Edited(NamedTuple):
@@ -172,17 +171,6 @@ class Editing(ABC, Generic[Answer]):
         """
         place = values.position(position, "an atom", 5)
         return self._edit(17, (*place, values.element(element, "the atom's element")))
-
-    def set_modification(self, position: Position, modification: Modification) -> Answer:
-        """Sets the modification of a conformer, `(standard name, comment)`, in the place of the one that it had. Both are kept as given,
-        neither trimmed nor raised. A name has 1 to 8 printable ASCII characters and a comment at most 64; others are refused with
-        18, `BadModification`.
-
-        No search goes by it, so each lists the same atoms as before. A join of two conformers keeps the first's.
-        """
-        name, comment = values.pair(modification, "the modification")
-        texts = (values.text(name, "the standard name"), values.text(comment, "the comment"))
-        return self._edit(18, values.position(position, "a conformer", 4), texts)
 
 
 class Edits(Editing["Edits"]):

@@ -167,12 +167,6 @@ class Conformer(_Part):
         return self.name, self.alternative_location
 
     @property
-    def modification(self) -> Optional[Tuple[str, str]]:
-        """Its standard name and a comment as `set_modification` was given them, if it is modified."""
-        standard = values.as_optional(self._word(3))
-        return None if standard is None else (standard, values.as_text(*map(self._word, range(4, RECORD))))
-
-    @property
     def atoms(self) -> Parts[Atom]:
         """Its atoms."""
         return self._parts(Atom)

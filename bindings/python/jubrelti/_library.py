@@ -152,7 +152,6 @@ EDITS = {
     15: _edit("join_residues", *[_U64] * 6),
     16: _edit("join_conformers", *[_U64] * 8),
     17: _edit("set_element", *[_U64] * 6),
-    18: _edit("set_modification", *[_U64] * 4, *_TEXT, *_TEXT),
 }
 
 

@@ -134,8 +134,8 @@ def pack_optional(value: Any, what: str) -> int:
     return pack(value, what)
 
 
-def as_text(*words: int) -> str:
-    return b"".join(word.to_bytes(8, "big") for word in words).rstrip(b"\0").decode("ascii")
+def as_text(word: int) -> str:
+    return word.to_bytes(8, "big").rstrip(b"\0").decode("ascii")
 
 
 def as_optional(word: int) -> Optional[str]:

@@ -37,8 +37,6 @@ EDITS = [
     (lambda s: s.join_conformers((0, 0, 1, 1), (0, 0, 1, 0)), (True, 0), [1, 2, 4, 3, 5, 6, 7]),
     (lambda s: s.set_element((0, 2, 0, 0, 0), "Se"), (True, 0), [1, 2, 3, 4, 5, 6, 7]),
     (lambda s: s.set_element([0, 0, 0, 0, 0], 8), (False, 0), [1, 2, 3, 4, 5, 6, 7]),
-    (lambda s: s.set_modification((0, 0, 1, 0), ("SER", "phosphorylated ")), (True, 0), [1, 2, 3, 4, 5, 6, 7]),
-    (lambda s: s.set_modification([0, 0, 0, 0], [" ", ""]), (True, 0), [1, 2, 3, 4, 5, 6, 7]),
 ]
 
 
@@ -161,64 +159,6 @@ class Elements(unittest.TestCase):
                         expected = [[position for position in listed if position != self.UNKNOWN] for listed in expected]
                     self.assertEqual(store.set_element(self.UNKNOWN, element), Edited(True, 0))
                     self.assertEqual(self.lists(store, search), expected)
-
-
-class Modifications(unittest.TestCase):
-    # Two conformers of one residue of `rich`.
-    FIRST, SECOND = (0, 0, 1, 0), (0, 0, 1, 1)
-
-    def modifications(self, store):
-        return [conformer.modification for conformer in store.conformers if conformer.modification]
-
-    def test_as_given(self):
-        record = rich().conformers[1].records[3]
-        for standard in ("MET", " met ", " ", "12345678"):
-            for comment in ("", "Se", "Selenium", "Selenium in place of sulfur", "  blanks  ", "~" * 64):
-                text = standard.encode().ljust(8, b"\0") + comment.encode().ljust(64, b"\0")
-                expected = rich().words.tolist()
-                expected[12 * record + 3 : 12 * record + 12] = [int.from_bytes(text[i : i + 8], "big") for i in range(0, 72, 8)]
-                store = rich()
-                self.assertEqual(store.set_modification(self.FIRST, (standard, comment)), Edited(True, 0))
-                self.assertEqual(store.words.tolist(), expected)
-                self.assertEqual(store.conformers[1].modification, (standard, comment))
-                self.assertEqual(self.modifications(store), [(standard, comment)])
-
-    def test_replaced(self):
-        store = rich()
-        store.set_modification(self.FIRST, ("MET", "Selenium in place of sulfur"))
-        conformer = store.conformers[1]
-        self.assertEqual(store.set_modification(self.FIRST, ("CYS", "")), Edited(True, 0))
-        with self.assertRaises(StaleHitError):
-            conformer.modification
-        store.set_modification(self.SECOND, store.conformers[1].modification)
-        self.assertEqual(self.modifications(store), [("CYS", ""), ("CYS", "")])
-
-    def test_other_edits(self):
-        store = rich()
-        self.assertEqual(self.modifications(store), [])
-        store.set_modification(self.FIRST, ("MET", "first"))
-        store.set_modification(self.SECOND, ("CYS", "second"))
-        both = [("MET", "first"), ("CYS", "second")]
-        store.add_atom(0, NewAtom(8, "C"), "A", (4, "B"), ("SER", "A"))
-        store.remove_atom((0, 0, 1, 1, 0))
-        store.join_residues((0, 1, 0), (0, 0, 1))
-        store.join_models(1, 0)
-        self.assertEqual(self.modifications(store), both)
-        self.assertEqual(self.modifications(Store.from_words(store.words)), both)
-        first, second = (conformer.position for conformer in store.conformers if conformer.modification)
-        store.join_conformers(second, first)
-        self.assertEqual(self.modifications(store), [("CYS", "second")])
-
-    def test_searches_and_lines(self):
-        """No search goes by a modification, and lines don't carry it."""
-        searches = [ConformerName("SER"), ~ConformerName("SER"), ConformerId("HOH", None) | Backbone(), ~SideChain(), EVERY]
-        for modification in (("HOH", ""), ("SER", "A"), ("MET", "SER")):
-            store = rich()
-            before, lines = [serials(store, search) for search in searches], store.write_pdb()
-            store.set_modification(self.FIRST, modification)
-            self.assertEqual([serials(store, search) for search in searches], before)
-            self.assertEqual(store.write_pdb(), lines)
-            self.assertEqual(self.modifications(Store.read_pdb(lines)), [])
 
 
 class Lists(unittest.TestCase):

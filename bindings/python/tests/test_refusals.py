@@ -52,15 +52,6 @@ class Refusals(unittest.TestCase):
                 self.refused(name, lambda s: s._edit(17, (*atom, number)))
                 self.refused_in_a_list(name, Edits()._edit(17, (*atom, number)))
 
-    def test_modifications(self):
-        bad = [(name, "") for name in ("", "123456789", "       1 ", "ME\t", "MET\x7f", "M\0T", "\u00e5")]
-        bad += [("MET", comment) for comment in (" " * 65, "\u00c5" * 32, "Se\nfor S", "\x1f", "\0")]
-        for modification in bad:
-            for name, conformer in (("BadModification", (0, 0, 0, 0)), ("NoPosition", (0, 0, 0, 1))):
-                with self.subTest((modification, conformer)):
-                    self.refused(name, lambda s: s.set_modification(conformer, modification))
-                    self.refused_in_a_list(name, Edits().set_modification(conformer, modification))
-
     def test_positions(self):
         self.refused("NoPosition", lambda s: s.add_atom(2, NewAtom(1, "CA"), "A", (1, None), GLY))
         self.refused("NoPosition", lambda s: s.remove_chain((0, 3)))
@@ -91,7 +82,7 @@ class Refusals(unittest.TestCase):
             self.assertEqual((error.number, error.name, str(error), repr(error)), (number, name, sentence, f"Error({number})"))
             self.assertIn("; ", sentence)
             self.assertTrue(cause)
-        self.assertEqual([row[0] for row in REFUSALS], [*range(1, 19), 22, 23])
+        self.assertEqual([row[0] for row in REFUSALS], [*range(1, 18), 22, 23])
         with self.assertRaisesRegex(RuntimeError, "refusal 99 is unknown"):
             check(99)
 
@@ -160,13 +151,6 @@ class WithoutWord(unittest.TestCase):
             self.no_word(TypeError, "the atom's element is a whole number, not ", lambda s: s.set_element((0, 2, 0, 0, 0), value))
         self.no_word(ValueError, "the symbol 'Xx', which no element has", lambda s: s.set_element((0, 2, 0, 0, 0), "Xx"))
         self.no_word(ValueError, "the position of an atom has 5 indexes", lambda s: s.set_element((0, 2), "N"))
-
-    def test_modifications(self):
-        conformer = (0, 0, 0, 0)
-        self.no_word(TypeError, "the modification is a pair, not 'MET'", lambda s: s.set_modification(conformer, "MET"))
-        self.no_word(TypeError, "the standard name is a text, not None", lambda s: s.set_modification(conformer, (None, "")))
-        self.no_word(TypeError, "the comment is a text, not b'Se'", lambda s: s.set_modification(conformer, ("MET", b"Se")))
-        self.no_word(ValueError, "the position of a conformer has 4 indexes", lambda s: s.set_modification((0, 0), ("MET", "")))
 
     def test_ids(self):
         atom = NewAtom(1, "CA")

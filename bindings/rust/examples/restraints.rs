@@ -1,8 +1,8 @@
 // Picks atoms as a restraint builder would: main chain, side chains, what is loose or a ligand, what isn't hydrogen, and a part of one chain.
 use jubrelti::*;
 
-// A serine, a glycine and a selenomethionine of chain A; in chain B a fragment with an atom X1, whose element isn't known, and a free glycine
-// from the soak: its names are those of the chain's own, and it is hetero.
+// A serine and a glycine of chain A; in chain B a fragment with an atom X1, whose element isn't known, and a free glycine from the soak: its
+// names are those of the chain's own, and it is hetero.
 const LINES: &str = include_str!("restraints.pdb");
 
 fn list(title: &str, hits: Hits) {
@@ -42,18 +42,6 @@ fn main() -> Result<(), Error> {
         store.set_element(position, Element::S)?;
     }
     println!("{} atoms without an element are left", store.find(unknown)?.len());
-
-    // The lines call it MSE and hetero. Its standard name says whose restraints it has; no search goes by that.
-    let selenium = Term::ConformerName("MSE".to_owned()) & Term::Element(Element::Se);
-    let positions: Vec<_> = store.find(selenium.clone())?.map(|hit| hit.position()).collect();
-    for [model, chain, residue, conformer, _] in positions {
-        store.set_modification([model, chain, residue, conformer], ("MET", "selenium in place of sulfur"))?;
-    }
-    for hit in store.find(selenium)? {
-        if let Some((standard, comment)) = hit.conformer().modification() {
-            println!("{} {} has the restraints of {standard}: {comment}", hit.conformer().name(), hit.residue().serial_number());
-        }
-    }
 
     // Both edits or none: the loose atoms go, and what holds no atoms then.
     let mut edits = Edits::new();

@@ -1,4 +1,4 @@
-use crate::text::{read_long, Text};
+use crate::text::Text;
 use crate::{tables, Atom};
 use std::cmp::Ordering;
 use std::fmt;
@@ -8,17 +8,12 @@ use std::fmt;
 pub struct Conformer {
     name: Text,
     alternative_location: Option<Text>,
-    // Few conformers have one, so the others hold no room for it.
-    modification: Option<Box<(String, String)>>,
     pub(crate) atoms: Vec<Atom>,
 }
 
 impl Conformer {
     pub(crate) fn read(record: &[u64], atoms: Vec<Atom>) -> Self {
-        // "word 3 the standard name, words 4 to 11 a comment"
-        let standard = Text::optional(record[3]);
-        let modification = standard.map(|name| Box::new((name.as_str().to_owned(), read_long(&record[4..12]))));
-        Conformer { name: Text::read(record[1]), alternative_location: Text::optional(record[2]), modification, atoms }
+        Conformer { name: Text::read(record[1]), alternative_location: Text::optional(record[2]), atoms }
     }
 
     /// Its name.
@@ -34,12 +29,6 @@ impl Conformer {
     /// Its name and alternative location.
     pub fn id(&self) -> (&str, Option<&str>) {
         (self.name(), self.alternative_location())
-    }
-
-    /// Its modification, if it is modified: the standard name and a comment, as [Store::set_modification](crate::Store::set_modification)
-    /// was given them.
-    pub fn modification(&self) -> Option<(&str, &str)> {
-        self.modification.as_deref().map(|(standard, comment)| (standard.as_str(), comment.as_str()))
     }
 
     /// Whether its name is that of an amino acid.

@@ -160,27 +160,4 @@ impl<W: Words> Store<W> {
     pub fn set_element(&mut self, position: [usize; 5], element: Element) -> Result<Edited, Error> {
         self.edit(|store| ffi::set_element(store, numbers(position), element.atomic_number() as u64))
     }
-
-    /// Sets the modification of a conformer: its standard name and a comment, in the place of those that it had. Both are kept as given,
-    /// neither trimmed nor raised. A name has 1 to 8 printable ASCII characters and a comment at most 64; others are
-    /// [Error::BadModification].
-    ///
-    /// No search goes by it, so each lists the same atoms as before. A join of two conformers keeps the first's.
-    ///
-    /// ```
-    /// use jubrelti::*;
-    ///
-    /// # fn main() -> Result<(), Error> {
-    /// # let mut store = Store::new();
-    /// # store.add_model(1)?;
-    /// # store.add_atom(0, NewAtom { name: "SE", element: Some(Element::Se), ..NewAtom::default() }, "A", (7, None), ("MSE", None))?;
-    /// store.set_modification([0, 0, 0, 0], ("MET", "Selenium in place of sulfur"))?;
-    /// assert_eq!(store.conformer(0).unwrap().modification(), Some(("MET", "Selenium in place of sulfur")));
-    /// # Ok(())
-    /// # }
-    /// ```
-    pub fn set_modification(&mut self, position: [usize; 4], modification: (impl AsRef<str>, impl AsRef<str>)) -> Result<Edited, Error> {
-        let (name, comment) = (modification.0.as_ref().as_bytes(), modification.1.as_ref().as_bytes());
-        self.edit(|store| ffi::set_modification(store, numbers(position), name, comment))
-    }
 }

@@ -180,19 +180,6 @@ extern "C" {
     #[rustfmt::skip]
     fn jubrelti_join_conformers(store: Words, n: usize, a: u64, b: u64, c: u64, d: u64, a2: u64, b2: u64, c2: u64, d2: u64) -> Edit;
     fn jubrelti_set_element(store: Words, n: usize, model: u64, chain: u64, residue: u64, conformer: u64, atom: u64, element: u64) -> Edit;
-    #[rustfmt::skip]
-    fn jubrelti_set_modification(
-        store: Words,
-        n: usize,
-        model: u64,
-        chain: u64,
-        residue: u64,
-        conformer: u64,
-        name: Bytes,
-        m: usize,
-        comment: Bytes,
-        c: usize,
-    ) -> Edit;
 }
 
 // The linked library's version: major * 1,000,000 + minor * 1,000 + patch.
@@ -360,10 +347,4 @@ pub fn join_conformers(store: &mut [u64], [a, b, c, d]: [u64; 4], [a2, b2, c2, d
 pub fn set_element(store: &mut [u64], [model, chain, residue, conformer, atom]: [u64; 5], element: u64) -> Edit {
     // SAFETY: one slice, borrowed by `&mut` and written.
     unsafe { jubrelti_set_element(store.as_mut_ptr(), store.len(), model, chain, residue, conformer, atom, element) }
-}
-
-pub fn set_modification(store: &mut [u64], [model, chain, residue, conformer]: [u64; 4], name: &[u8], comment: &[u8]) -> Edit {
-    let (s, n, t, m, u, c) = (store.as_mut_ptr(), store.len(), name.as_ptr(), name.len(), comment.as_ptr(), comment.len());
-    // SAFETY: `name` and `comment` are read, and `store` is borrowed by `&mut` and written.
-    unsafe { jubrelti_set_modification(s, n, model, chain, residue, conformer, t, m, u, c) }
 }

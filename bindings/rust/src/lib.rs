@@ -69,11 +69,12 @@
 //!
 //! - All that ends in `_mut`, each `set_..`, the constructors, `sort`, `renumber`, `apply_transformation`: words are edited by the
 //!   library's proved edits alone, and a change of what was read out would be lost. [Store::set_element] fills in an element that is
-//!   missing, and [Store::set_modification] sets what [Conformer::modification] reads.
+//!   missing.
 //! - All that begins with `par_`, and the trees of rstar: the package has no dependencies. A store is `Sync`, so threads can share
 //!   its atoms.
 //! - `distance_wrapping` and the four `overlaps..`: a store has no unit cell, and the package no table of radii.
-//! - Remarks, bonds, matrices, unit cell, symmetry, `database_reference`, anisotropic factors: a store has no words for them.
+//! - Remarks, bonds, matrices, unit cell, symmetry, `modification`, `database_reference`, anisotropic factors: a store has no words
+//!   for them.
 //! - `binary_find_atom` of a model or chain: in the crate it misses atoms that are there, and it panics on an empty chain
 //!   (`docs/DIFFERENCES.md`, "Serial lookup"). [Store::binary_find_atom] has a definition that is proved.
 //!
@@ -127,7 +128,7 @@ pub use search::{Ops, Search, Term};
 pub use store::{Store, Words, MAX_RECORDS};
 
 /// The version of these bindings, and of the library that they call: major * 1,000,000 + minor * 1,000 + patch.
-pub const VERSION: u64 = 11_000;
+pub const VERSION: u64 = 10_000;
 
 // A library of another version may lay out its words or number its refusals in another way. A patch changes neither.
 fn check_version() -> Result<(), Error> {
@@ -158,7 +159,7 @@ mod tests {
         for number in 1..100 {
             let refusal = Error::check(number).unwrap_err();
             assert_eq!(refusal.number(), Some(number));
-            let known = number <= 18 || [22, 23].contains(&number);
+            let known = number <= 17 || [22, 23].contains(&number);
             assert_eq!(refusal == Error::Unknown(number), !known);
         }
     }

@@ -227,12 +227,6 @@ impl Edits {
         let [model, chain, residue, conformer, atom] = numbers(position);
         self.push(17, &[model, chain, residue, conformer, atom, element.atomic_number() as u64], &[])
     }
-
-    /// See [Store::set_modification](crate::Store::set_modification).
-    pub fn set_modification(&mut self, position: [usize; 4], modification: (impl AsRef<str>, impl AsRef<str>)) -> &mut Self {
-        let texts = [modification.0.as_ref(), modification.1.as_ref()].map(|text| Part::Text(text.as_bytes()));
-        self.push(18, &numbers(position), &texts)
-    }
 }
 
 /// How many edits there are; their words can be a million.

@@ -17,7 +17,6 @@ refusals! {
     15 BadConformer: "a bad conformer name, an alternative location of over 8 bytes, or a location's flag above 1", "the conformer's name is bad, its alternative location is too long, or the location's flag is over 1; give the name 1 to 8 printable ASCII characters and the location at most 8, not counting spaces at the ends";
     16 BadAtomName: "a bad atom name", "the atom's name is bad; give it at most 8 printable ASCII characters, not counting spaces at its ends";
     17 BadText: "a text that the writer could not have made", "the text isn't PDB lines as write_pdb writes them; give each line 80 columns and a newline, MODEL and ENDMDL around the atoms of each model and no other lines, and each field its columns of docs/FORMATS.md";
-    18 BadModification: "a bad standard name or comment of a modification", "the modification's standard name or its comment is bad; give the name 1 to 8 printable ASCII characters and the comment at most 64, counting spaces at the ends";
     22 BadList: "the words are not a well-formed list of edits", "the list isn't well-formed, or an edit in it has over 1,024 words; give each edit the words of its code, and shorten its texts or its search";
     23 ShortAnswers: "the output is shorter than three words for each edit", "the output has no room for all answers; lend three words for each edit";
 }

@@ -49,8 +49,3 @@ impl fmt::Debug for Text {
         self.as_str().fmt(f)
     }
 }
-
-// A longer text that stands in several words, eight bytes to each.
-pub fn read_long(words: &[u64]) -> String {
-    words.iter().flat_map(|word| word.to_be_bytes()).take_while(|b| *b != 0).map(char::from).collect()
-}

@@ -17,9 +17,6 @@ fn each_edit_as_by_itself() {
     for (index, element) in [(1, Element::N), (1, Element::O), (2, Element::O)] {
         edits.set_element([0, 1, 0, 1, index], element);
     }
-    for (conformer, standard, comment) in [(1, "GLY", "as given "), (1, " ", ""), (0, "", ""), (2, "", "")] {
-        edits.set_modification([0, 1, 0, conformer], (standard, comment));
-    }
     edits.remove_atom([0, 0, 0, 0, 0]).remove_empty(0).remove_chain_by_id(0, "C").remove_residue_by_id([0, 0], (2, Some("X")));
     edits.remove_conformer_by_id([0, 1, 0], ("GLY", Some("B"))).remove_atom_by_serial_number([0, 1, 0, 0], 9);
     edits.join_chains([0, 1], [0, 0]).join_models(1, 0).join_residues([0, 0, 0], [0, 0, 0]).join_conformers([0; 4], [0, 0, 0, 1]);
@@ -38,10 +35,6 @@ fn each_edit_as_by_itself() {
         s.set_element([0, 1, 0, 1, 1], Element::N),
         s.set_element([0, 1, 0, 1, 1], Element::O),
         s.set_element([0, 1, 0, 1, 2], Element::O),
-        s.set_modification([0, 1, 0, 1], ("GLY", "as given ")),
-        s.set_modification([0, 1, 0, 1], (" ", "")),
-        s.set_modification([0, 1, 0, 0], ("", "")),
-        s.set_modification([0, 1, 0, 2], ("", "")),
         s.remove_atom([0, 0, 0, 0, 0]),
         s.remove_empty(0),
         s.remove_chain_by_id(0, "C"),
@@ -59,7 +52,6 @@ fn each_edit_as_by_itself() {
     ]);
     assert!(answers.iter().any(|a| a.is_err()) && answers.iter().any(|a| a.is_ok()));
     assert_eq!(answers[8..11], [Ok(EDITED), Ok(Edited { found: false, removed: 0 }), Err(Error::NoPosition)]);
-    assert_eq!(answers[11..15], [Ok(EDITED), Ok(EDITED), Err(Error::BadModification), Err(Error::NoPosition)]);
 
     let mut as_one = Store::with_records(30).unwrap();
     assert_eq!(as_one.apply(&edits).unwrap().answers(), answers);

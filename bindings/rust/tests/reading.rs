@@ -147,30 +147,6 @@ fn a_position_is_where_the_edit_goes() {
 }
 
 #[test]
-fn modifications() {
-    let mut store = example();
-    assert!(store.conformers().all(|c| c.modification().is_none()));
-    store.set_modification([0, 0, 1, 1], ("SER", "phosphorylated")).unwrap();
-    store.set_modification([2, 0, 0, 0], ("ALA", "")).unwrap();
-    let (phosphorylated, alanine) = (Some(("SER", "phosphorylated")), Some(("ALA", "")));
-    let of_conformers: Vec<_> = store.conformers().map(|c| c.modification()).collect();
-    assert_eq!(of_conformers, [None, None, phosphorylated, None, alanine]);
-    let of_hits: Vec<_> = store.find(Search::Known(true)).unwrap().map(|hit| hit.conformer().modification()).collect();
-    assert_eq!(of_hits, [None, None, None, phosphorylated, phosphorylated, None, alanine]);
-    // It tells conformers apart that are else the same, and leaves the order as it is.
-    let (one, other) = (example(), store);
-    let [ours, theirs] = [&one, &other].map(|store| store.conformer(2).unwrap());
-    assert_ne!(ours, theirs);
-    assert_eq!((ours.cmp(theirs), ours.to_string()), (std::cmp::Ordering::Equal, theirs.to_string()));
-    // Lines don't carry it.
-    let lines = other.write_pdb().unwrap();
-    assert_eq!(lines, one.write_pdb().unwrap());
-    assert!(Store::read_pdb(&lines).unwrap().conformers().all(|c| c.modification().is_none()));
-    let words = Store::from_words(other.words()).unwrap();
-    assert_eq!(words.conformer(2), other.conformer(2));
-}
-
-#[test]
 fn names_of_residues_and_kinds_of_atoms() {
     let store = example();
     let names: Vec<Option<&str>> = store.residues().map(Residue::name).collect();

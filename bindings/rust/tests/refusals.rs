@@ -53,18 +53,6 @@ fn edits() {
     assert_eq!(refused(|s| s.join_conformers([0; 4], [0; 4])), Error::JoinWithItself);
 }
 
-#[test]
-fn modifications() {
-    let set = |standard: &str, comment: &str| refused(|s| s.set_modification([0; 4], (standard, comment)));
-    for standard in ["", "123456789", "       1 ", "ME\t", "MET\u{7f}", "M\0T", "\u{e5}"] {
-        assert_eq!(set(standard, ""), Error::BadModification, "{standard:?}");
-    }
-    let (too_long, in_bytes) = (" ".repeat(65), "\u{c5}".repeat(32));
-    for comment in [&too_long, &in_bytes, "Se\nfor S", "\u{1f}", "\u{7f}", "\0"] {
-        assert_eq!(set("MET", comment), Error::BadModification, "{comment:?}");
-    }
-}
-
 // The first and the last pattern of each class, with either sign: zero, subnormal and normal are stored as they are, the others refused.
 #[test]
 fn classes_of_floats() {
@@ -166,7 +154,6 @@ fn numbers_and_sentences() {
         (16, Error::BadAtomName),
         (17, Error::BadText),
         (17, Error::BadLine { line: 3 }),
-        (18, Error::BadModification),
         (22, Error::BadList),
         (23, Error::ShortAnswers),
         (99, Error::Unknown(99)),

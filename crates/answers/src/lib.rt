@@ -29,7 +29,6 @@ pub fn refusal_number(r: Refusal) -> u64
         Refusal::BadConformer => 15,
         Refusal::BadAtomName => 16,
         Refusal::BadText => 17,
-        Refusal::BadModification => 18,
         Refusal::BadList => 22,
         Refusal::ShortAnswers => 23,
     }

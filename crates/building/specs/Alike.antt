@@ -9,10 +9,9 @@ use Rattle.machine.specs.Record.{Atom}
 use Rattle.machine.specs.Store.{Branch, Machine, flat, records}
 use Rattle.machine.specs.Edit.{Which, first, last, pick, put_in, upsert}
 use Rattle.machine.specs.Lines.{AtomLine, Entry, entry_of}
-use Rattle.machine.specs.Read.{id_of, tidy_machine}
-use Rattle.laws.specs.Labels.{new_of, bare_machine}
+use Rattle.machine.specs.Read.{same_id, tidy_machine}
 use Rattle.building.specs.Picks.{change}
-use Rattle.building.specs.Build.{into, into-is, into_all, build, Item, item_of, which_at, has_id, insert}
+use Rattle.building.specs.Build.{into, into-is, into_all, build, Item, item_of, which_at, insert}
 use Rattle.building.specs.Rebuild.{items, line_at, lines_are, build-back}
 
 -- a branch, a line and an entry with f done to every atom
@@ -55,9 +54,9 @@ insert-alike : (k : ℕ) (f : Atom → Atom) (p : Item k) (ts : List (Branch k))
 unfolding map_atoms upsert
 insert-alike zero f a ts = sym (map-append f ts (a ∷ []))
 insert-alike (suc k) f p ts =
-    ap (λ (o : Option ℕ). put_in o (λ t. (t.0, insert k (on_item k f p.1) t.1)) (new_of k p.0, insert k (on_item k f p.1) []) (map (map_atoms (suc k) f) ts))
-    (pick-map (map_atoms (suc k) f) (λ (t : Branch (suc k)). has_id k p.0 t.0) (λ t. has_id k p.0 t.0) (λ t. refl) (which_at k) ts)
-    ∙ go (insert-alike k f p.1) (pick (which_at k) (λ t. has_id k p.0 t.0) ts)
+    ap (λ (o : Option ℕ). put_in o (λ t. (t.0, insert k (on_item k f p.1) t.1)) (p.0, insert k (on_item k f p.1) []) (map (map_atoms (suc k) f) ts))
+    (pick-map (map_atoms (suc k) f) (λ (t : Branch (suc k)). same_id k p.0 t.0) (λ t. same_id k p.0 t.0) (λ t. refl) (which_at k) ts)
+    ∙ go (insert-alike k f p.1) (pick (which_at k) (λ t. same_id k p.0 t.0) ts)
   where
     M : Branch (suc k) → Branch (suc k)
     M = λ t. (t.0, map (map_atoms k f) t.1)
@@ -66,8 +65,8 @@ insert-alike (suc k) f p ts =
     q = on_item k f p.1
 
     go : ((us : List (Branch k)) → insert k q (map (map_atoms k f) us) ≡ map (map_atoms k f) (insert k p.1 us)) → (o : Option ℕ)
-        → put_in o (λ t. (t.0, insert k q t.1)) (new_of k p.0, insert k q []) (map M ts) ≡ map M (put_in o (λ t. (t.0, insert k p.1 t.1)) (new_of k p.0, insert k p.1 []) ts)
-    go r none = ap (λ (us : List (Branch k)). map M ts ++ ((new_of k p.0, us) ∷ [])) (r []) ∙ sym (map-append M ts ((new_of k p.0, insert k p.1 []) ∷ []))
+        → put_in o (λ t. (t.0, insert k q t.1)) (p.0, insert k q []) (map M ts) ≡ map M (put_in o (λ t. (t.0, insert k p.1 t.1)) (p.0, insert k p.1 []) ts)
+    go r none = ap (λ (us : List (Branch k)). map M ts ++ ((p.0, us) ∷ [])) (r []) ∙ sym (map-append M ts ((p.0, insert k p.1 []) ∷ []))
     go r (some i) = change-map M i (λ t. (t.0, insert k p.1 t.1)) (λ t. (t.0, insert k q t.1)) (λ t. ap (λ (us : List (Branch k)). (t.0, us)) (r t.1)) ts
 
 lines-alike : (f : Atom → Atom) (ls : List AtomLine) (ts : List (Branch 3)) → into_all (map (on_atom f) ls) (map (map_atoms 3 f) ts) ≡ map (map_atoms 3 f) (into_all ls ts)
@@ -110,9 +109,9 @@ unfolding items map_atoms
 items_alike f zero ts = refl
 items_alike f (suc k) [] = refl
 items_alike f (suc k) (t ∷ ts) =
-    (λ i. map (λ p. (id_of k t.0, p)) (items_alike f k t.1 i) ++ items_alike f (suc k) ts i)
-    ∙ ap (λ (ps : List (Item (suc k))). ps ++ map (on_item (suc k) f) (items (suc k) ts)) (map-map (λ (p : Item k). (id_of k t.0, p)) (on_item k f) (items k t.1) ∙ sym (map-map (on_item (suc k) f) (λ (p : Item k). (id_of k t.0, p)) (items k t.1)))
-    ∙ sym (map-append (on_item (suc k) f) (map (λ p. (id_of k t.0, p)) (items k t.1)) (items (suc k) ts))
+    (λ i. map (λ p. (t.0, p)) (items_alike f k t.1 i) ++ items_alike f (suc k) ts i)
+    ∙ ap (λ (ps : List (Item (suc k))). ps ++ map (on_item (suc k) f) (items (suc k) ts)) (map-map (λ (p : Item k). (t.0, p)) (on_item k f) (items k t.1) ∙ sym (map-map (on_item (suc k) f) (λ (p : Item k). (t.0, p)) (items k t.1)))
+    ∙ sym (map-append (on_item (suc k) f) (map (λ p. (t.0, p)) (items k t.1)) (items (suc k) ts))
 
 entry-alike : (f : Atom → Atom) (t : Branch 4) → entry_of (map_atoms 4 f t) ≡ on_atoms f (entry_of t)
 unfolding entry_of map_atoms
@@ -127,5 +126,5 @@ pub entries-alike : (f : Atom → Atom) (m : Machine) → map entry_of (map (map
 entries-alike f [] = refl
 entries-alike f (t ∷ ts) = λ i. entry-alike f t i ∷ entries-alike f ts i
 
-pub machine-alike : (f : Atom → Atom) (m : Machine) → tidy_machine m ≡ true → build (map (on_atoms f) (map entry_of m)) ≡ map (map_atoms 4 f) (bare_machine m)
+pub machine-alike : (f : Atom → Atom) (m : Machine) → tidy_machine m ≡ true → build (map (on_atoms f) (map entry_of m)) ≡ map (map_atoms 4 f) m
 machine-alike f m h = build-alike f (map entry_of m) ∙ ap (map (map_atoms 4 f)) (build-back m h)

@@ -6,9 +6,8 @@ use Rattle.machine.specs.Record.{Fields, Atom}
 use Rattle.machine.specs.Store.{Branch, Machine}
 use Rattle.machine.specs.Edit.{Which, first, last, upsert, into_chains}
 use Rattle.machine.specs.Lines.{AtomLine, Entry}
-use Rattle.machine.specs.Read.{Id, id_of, same_id}
+use Rattle.machine.specs.Read.{same_id}
 use Rattle.laws.specs.Lists.{and_both, and-true}
-use Rattle.laws.specs.Labels.{new_of, id-new}
 use Rattle.building.specs.Prepared.{prepared_of}
 
 -- one change after the other
@@ -34,10 +33,10 @@ build es = map (λ e. (e.model, into_all e.atoms [])) es
 
 -- ---- over the level
 
--- an atom with the ids of what it stands under, up to level k
+-- an atom with what it stands under, up to level k
 abbrev pub Item : ℕ → Type 0
 Item zero = Atom
-Item (suc k) = Id k × Item k
+Item (suc k) = Fields (suc k) × Item k
 
 abbrev pub item_of : AtomLine → Item 3
 item_of l = (l.chain, (l.residue, (l.conformer, l.atom)))
@@ -48,13 +47,9 @@ which_at zero = first
 which_at (suc zero) = last
 which_at (suc (suc k)) = first
 
--- fields with this id
-abbrev pub has_id : (k : ℕ) → Id k → Fields (suc k) → Bool
-has_id k i f = same_id k i (id_of k f)
-
 abbrev pub insert : (k : ℕ) → Item k → List (Branch k) → List (Branch k)
 insert zero a us = us ++ (a ∷ [])
-insert (suc k) p ts = upsert k (which_at k) (has_id k p.0) (new_of k p.0) (insert k p.1) ts
+insert (suc k) p ts = upsert k (which_at k) (same_id k p.0) p.0 (insert k p.1) ts
 
 pub into-is : (l : AtomLine) → into l ≡ insert 3 (item_of l)
 unfolding prepared_of
@@ -62,17 +57,13 @@ into-is l = refl
 
 -- ---- ids are told apart by all that stands in them
 
-pub id-self : (k : ℕ) → k ≤ 2 → (f : Id k) → same_id k f f ≡ true
+pub id-self : (k : ℕ) → k ≤ 2 → (f : Fields (suc k)) → same_id k f f ≡ true
 id-self zero h f = and-true (eq-eqb f.name f.name refl) (eq-eqb f.location f.location refl)
 id-self (suc zero) h f = and-true (eq-eqb f.serial f.serial refl) (eq-eqb f.code f.code refl)
 id-self (suc (suc zero)) h f = eq-eqb f.id f.id refl
 id-self (suc (suc (suc k))) h f = absurd (omega arith)
 
--- what an addition makes anew has the addition's id
-pub has_new : (k : ℕ) → k ≤ 2 → (i : Id k) → has_id k i (new_of k i) ≡ true
-has_new k h i = ap (same_id k i) (id-new k i) ∙ id-self k h i
-
-pub id-is : (k : ℕ) (f g : Id k) → same_id k f g ≡ true → f ≡ g
+pub id-is : (k : ℕ) (f g : Fields (suc k)) → same_id k f g ≡ true → f ≡ g
 id-is zero f g e =
     let b = and_both (eqb g.name f.name) (eqb g.location f.location) e in
     let y = sym (eqb-true g.name f.name b.0) in
@@ -86,13 +77,13 @@ id-is (suc zero) f g e =
 id-is (suc (suc zero)) f g e = let z = sym (eqb-true g.id f.id e) in (λ i. record { id = z i })
 id-is (suc (suc (suc k))) f g e = absurd (false≢true e)
 
-module _ (k : ℕ) (b a : Id k) where
-  pub id-apart : same_id k b a ≡ false → (x : Id k) → same_id k b x ≡ true → same_id k a x ≡ false
+module _ (k : ℕ) (b a : Fields (suc k)) where
+  pub id-apart : same_id k b a ≡ false → (x : Fields (suc k)) → same_id k b x ≡ true → same_id k a x ≡ false
   id-apart e x h = go (same_id k a x) refl
     where
       go : (t : Bool) → same_id k a x ≡ t → t ≡ false
       go false f = refl
       go true f = absurd (false≢true (sym e ∙ ap (same_id k b) (id-is k a x f) ∙ h))
 
-  pub id-agree : same_id k b a ≡ true → (x : Id k) → same_id k a x ≡ same_id k b x
-  id-agree e x = ap (λ (z : Id k). same_id k z x) (sym (id-is k b a e))
+  pub id-agree : same_id k b a ≡ true → (x : Fields (suc k)) → same_id k a x ≡ same_id k b x
+  id-agree e x = ap (λ (z : Fields (suc k)). same_id k z x) (sym (id-is k b a e))

@@ -11,13 +11,12 @@ use Rattle.machine.specs.Record.{Fields}
 use Rattle.machine.specs.Store.{Branch, flat}
 use Rattle.machine.specs.Edit.{Which, pick, put_in, upsert}
 use Rattle.machine.specs.Lines.{AtomLine}
-use Rattle.machine.specs.Read.{id_of, same_id}
+use Rattle.machine.specs.Read.{same_id}
 use Rattle.laws.specs.Lists.{All, sum-append, length-concat_map}
 use Rattle.laws.specs.Places.{splice-sum}
-use Rattle.laws.specs.Labels.{new_of}
 use Rattle.building.specs.Lacks.{lacks, needed}
 use Rattle.building.specs.Picks.{chosen, Seen, pick-seen, pick-agree, pick-none, pick_end, nth_end, chosen-miss, chosen-other, chosen-same}
-use Rattle.building.specs.Build.{Item, item_of, which_at, has_id, insert, into, into-is, into_all, has_new, id-apart, id-agree}
+use Rattle.building.specs.Build.{Item, item_of, which_at, insert, into, into-is, into_all, id-self, id-apart, id-agree}
 
 -- ---- how many records an addition makes in some branches
 
@@ -28,7 +27,7 @@ missing k n m (some t) = m t.1
 
 abbrev makes : (k : ℕ) → Item k → List (Branch k) → ℕ
 makes zero a us = 1
-makes (suc k) p ts = missing k (suc (suc k)) (makes k p.1) (chosen (which_at k) (λ t. has_id k p.0 t.0) ts)
+makes (suc k) p ts = missing k (suc (suc k)) (makes k p.1) (chosen (which_at k) (λ t. same_id k p.0 t.0) ts)
 
 module _ (k : ℕ) (w : Which) (n : ℕ) (m : List (Branch k) → ℕ) (top : (us : List (Branch k)) → m us ≤ n)
     (p q : Fields (suc k) → Bool) (new : Fields (suc k)) (f : List (Branch k) → List (Branch k)) where
@@ -89,7 +88,7 @@ module _ (k : ℕ) (w : Which) (n : ℕ) (m : List (Branch k) → ℕ) (top : (u
 
 makes-top : (k : ℕ) (p : Item k) (ts : List (Branch k)) → makes k p ts ≤ suc k
 makes-top zero p ts = le_refl 1
-makes-top (suc k) p ts = go (makes-top k p.1) (chosen (which_at k) (λ t. has_id k p.0 t.0) ts)
+makes-top (suc k) p ts = go (makes-top k p.1) (chosen (which_at k) (λ t. same_id k p.0 t.0) ts)
   where
     go : ((us : List (Branch k)) → makes k p.1 us ≤ suc k) → (o : Option (Branch (suc k))) → missing k (suc (suc k)) (makes k p.1) o ≤ suc (suc k)
     go r none = le_refl (suc (suc k))
@@ -98,7 +97,7 @@ makes-top (suc k) p ts = go (makes-top k p.1) (chosen (which_at k) (λ t. has_id
 makes-all : (k : ℕ) (p : Item k) → makes k p [] ≡ suc k
 makes-all zero p = refl
 makes-all (suc k) p =
-    ap (λ (o : Option ℕ). missing k (suc (suc k)) (makes k p.1) (and_then o (λ i. nth i []))) (pick-none (λ (t : Branch (suc k)). has_id k p.0 t.0) (which_at k) [] tt)
+    ap (λ (o : Option ℕ). missing k (suc (suc k)) (makes k p.1) (and_then o (λ i. nth i []))) (pick-none (λ (t : Branch (suc k)). same_id k p.0 t.0) (which_at k) [] tt)
 
 -- what an atom lacks beside another, up to level k
 abbrev lacks_at : (k : ℕ) → Item k → Item k → ℕ
@@ -130,11 +129,11 @@ makes-after (suc k) h b a ts = go (same_id k b.0 a.0) refl (makes-after k (omega
     go : (t : Bool) → same_id k b.0 a.0 ≡ t → ((us : List (Branch k)) → makes k a.1 (insert k b.1 us) ≡ min (lacks_at k b.1 a.1) (makes k a.1 us))
         → makes (suc k) a (insert (suc k) b ts) ≡ min (cond t (lacks_at k b.1 a.1) (suc (suc k))) (makes (suc k) a ts)
     go true e r =
-        agrees k (which_at k) (suc (suc k)) (makes k a.1) top (has_id k b.0) (has_id k a.0) (new_of k b.0) (insert k b.1) (lacks_at k b.1 a.1) r less
-        (λ x. id-agree k b.0 a.0 e (id_of k x)) (has_new k low b.0) ts
+        agrees k (which_at k) (suc (suc k)) (makes k a.1) top (same_id k b.0) (same_id k a.0) b.0 (insert k b.1) (lacks_at k b.1 a.1) r less
+        (id-agree k b.0 a.0 e) (id-self k low b.0) ts
     go false e r =
-        differs k (which_at k) (suc (suc k)) (makes k a.1) top (has_id k b.0) (has_id k a.0) (new_of k b.0) (insert k b.1)
-        (λ x. id-apart k b.0 a.0 e (id_of k x)) (has_new k low b.0) ts
+        differs k (which_at k) (suc (suc k)) (makes k a.1) top (same_id k b.0) (same_id k a.0) b.0 (insert k b.1)
+        (id-apart k b.0 a.0 e) (id-self k low b.0) ts
 
 -- ---- the records of a list of branches
 
@@ -171,8 +170,8 @@ grows_at : (k : ℕ) (p : Item k) (ts : List (Branch k)) → sizes k (insert k p
 unfolding flat
 grows_at zero a us = sum-append (λ t. length (flat 0 t)) us (a ∷ [])
 grows_at (suc k) p ts =
-    grown k (which_at k) (makes k p.1) (has_id k p.0) (new_of k p.0) (insert k p.1) (grows_at k p.1) ts
-    ∙ ap (λ (n : ℕ). sizes (suc k) ts + missing k (suc n) (makes k p.1) (chosen (which_at k) (λ t. has_id k p.0 t.0) ts)) (makes-all k p.1)
+    grown k (which_at k) (makes k p.1) (same_id k p.0) p.0 (insert k p.1) (grows_at k p.1) ts
+    ∙ ap (λ (n : ℕ). sizes (suc k) ts + missing k (suc n) (makes k p.1) (chosen (which_at k) (λ t. same_id k p.0 t.0) ts)) (makes-all k p.1)
 
 -- ---- a model's lines
 

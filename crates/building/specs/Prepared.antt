@@ -4,7 +4,7 @@ use Rattle.std.proofs.Common.{sym, ap, eqb-true}
 use Rattle.std.proofs.lemmas.Bool.{false≢true}
 use Rattle.machine.specs.Answer.{ok}
 use Rattle.machine.specs.Text.{text_of, chain_id, insertion_code, conformer_name, alternative_location, atom_name, stores, stored_by, absent_or, by_flag, optional}
-use Rattle.machine.specs.Record.{good_label, good_fields}
+use Rattle.machine.specs.Record.{good_fields}
 use Rattle.machine.specs.Edit.{prepare, accept}
 use Rattle.machine.specs.Lines.{AtomLine}
 use Rattle.machine.specs.LinesIn.{good_line}
@@ -61,7 +61,7 @@ unfolding prepare addition_of prepared_of good_line good_fields
 prepared l g =
     let p = and_both (good_fields 3 l.chain) _ g in
     let q = and_both (good_fields 2 l.residue) _ p.1 in
-    let r = and_both (good_label l.conformer) (good_fields 0 l.atom) q.1 in
+    let r = and_both (good_fields 1 l.conformer) (good_fields 0 l.atom) q.1 in
     let s = and_both (stored_by conformer_name l.conformer.name) (absent_or alternative_location l.conformer.location) r.0 in
     let t = and_both (stored_by atom_name l.atom.name) _ r.1 in
     rw (

@@ -1,4 +1,4 @@
--- A machine's lines, added one by one, build it again, without its modifications, where no two siblings have equal ids and nothing is empty. Assumes nothing.
+-- A machine's lines, added one by one, build it again where no two siblings have equal ids and nothing is empty. Assumes nothing.
 use Rattle.std.specs.Prelude.{ℕ, zero, suc, ◌≤◌, ◌≡◌, refl, Bool, true, false, not, ◌&&◌, ◌||◌, List, [], ◌∷◌, ◌++◌, map}
 use Rattle.std.proofs.Common.{sym, ◌∙◌, append_assoc, append-nil, le_refl, arith}
 use Rattle.std.proofs.Math.Path.{ap}
@@ -7,20 +7,20 @@ use Rattle.std.proofs.lemmas.List.{map-append}
 use Rattle.std.proofs.lemmas.Simd.{map-map}
 use Rattle.std.proofs.Math.Option.{Option}
 use Rattle.machine.specs.Lists.{is_empty, all, any, concat_map}
+use Rattle.machine.specs.Record.{Fields}
 use Rattle.machine.specs.Store.{Branch, Machine}
 use Rattle.machine.specs.Edit.{put_in, upsert}
 use Rattle.machine.specs.Lines.{AtomLine, entry_of}
-use Rattle.machine.specs.Read.{Id, id_of, same_id, distinct, tidy, tidy_machine}
+use Rattle.machine.specs.Read.{same_id, distinct, tidy, tidy_machine}
 use Rattle.laws.specs.Lists.{All, All-of, All-map, All-append, and_both}
-use Rattle.laws.specs.Labels.{new_of, bare, bare_machine}
 use Rattle.building.specs.Picks.{None, pick-none, pick_end, change-end}
-use Rattle.building.specs.Build.{adds, adds-append, into, into-is, into_all, build, Item, which_at, has_id, insert, has_new, id-apart}
+use Rattle.building.specs.Build.{adds, adds-append, into, into-is, into_all, build, Item, which_at, insert, id-self, id-apart}
 
--- ---- the atoms of some branches, with the ids of what they stand under
+-- ---- the atoms of some branches, with what they stand under
 
 unfoldable pub items : (k : ℕ) → List (Branch k) → List (Item k)
 items zero atoms = atoms
-items (suc k) ts = concat_map (λ t. map (λ p. (id_of k t.0, p)) (items k t.1)) ts
+items (suc k) ts = concat_map (λ t. map (λ p. (t.0, p)) (items k t.1)) ts
 
 abbrev pub line_at : Item 3 → AtomLine
 line_at p = record { chain = p.0; residue = p.1.0; conformer = p.1.1.0; atom = p.1.1.1 }
@@ -28,7 +28,7 @@ line_at p = record { chain = p.0; residue = p.1.0; conformer = p.1.1.0; atom = p
 -- what G makes of each
 abbrev spread : {B : Type 0} (k : ℕ) → (Item k → B) → List (Branch k) → List B
 spread zero G atoms = map G atoms
-spread (suc k) G ts = concat_map (λ t. spread k (λ p. G (id_of k t.0, p)) t.1) ts
+spread (suc k) G ts = concat_map (λ t. spread k (λ p. G (t.0, p)) t.1) ts
 
 map-concat_map : {A B C : Type 0} (f : B → C) (g : A → List B) (h : A → List C) → ((x : A) → map f (g x) ≡ h x) → (xs : List A) → map f (concat_map g xs) ≡ concat_map h xs
 map-concat_map f g h e [] = refl
@@ -38,8 +38,8 @@ items-spread : {B : Type 0} (k : ℕ) (G : Item k → B) (ts : List (Branch k)) 
 unfolding items
 items-spread zero G ts = refl
 items-spread (suc k) G ts =
-    map-concat_map G (λ t. map (λ p. (id_of k t.0, p)) (items k t.1)) (λ t. spread k (λ p. G (id_of k t.0, p)) t.1)
-    (λ t. map-map G (λ (p : Item k). (id_of k t.0, p)) (items k t.1) ∙ items-spread k (λ p. G (id_of k t.0, p)) t.1) ts
+    map-concat_map G (λ t. map (λ p. (t.0, p)) (items k t.1)) (λ t. spread k (λ p. G (t.0, p)) t.1)
+    (λ t. map-map G (λ (p : Item k). (t.0, p)) (items k t.1) ∙ items-spread k (λ p. G (t.0, p)) t.1) ts
 
 -- a model's lines
 pub lines_are : (t : Branch 4) → (entry_of t).atoms ≡ map line_at (items 3 t.1)
@@ -59,41 +59,41 @@ full-map : {A B : Type 0} (f : A → B) (xs : List A) → Full xs → Full (map 
 full-map f [] h = absurd (false≢true h)
 full-map f (x ∷ xs) h = refl
 
-abbrev under : (k : ℕ) → Id k → Item k → Item (suc k)
+abbrev under : (k : ℕ) → Fields (suc k) → Item k → Item (suc k)
 under k f p = (f, p)
 
-module _ (k : ℕ) (low : k ≤ 2) (f : Id k) (done : List (Branch (suc k))) (fresh : None (λ (t : Branch (suc k)). has_id k f t.0) done) where
-  grow : (us : List (Branch k)) (p : Item k) → insert (suc k) (f, p) (done ++ ((new_of k f, us) ∷ [])) ≡ done ++ ((new_of k f, insert k p us) ∷ [])
+module _ (k : ℕ) (low : k ≤ 2) (f : Fields (suc k)) (done : List (Branch (suc k))) (fresh : None (λ (t : Branch (suc k)). same_id k f t.0) done) where
+  grow : (us : List (Branch k)) (p : Item k) → insert (suc k) (f, p) (done ++ ((f, us) ∷ [])) ≡ done ++ ((f, insert k p us) ∷ [])
   unfolding upsert
   grow us p =
-      ap (λ (o : Option ℕ). put_in o (λ t. (t.0, insert k p t.1)) (new_of k f, insert k p []) (done ++ ((new_of k f, us) ∷ [])))
-      (pick_end (λ (t : Branch (suc k)). has_id k f t.0) (which_at k) done (new_of k f, us) fresh (has_new k low f))
-      ∙ change-end (λ t. (t.0, insert k p t.1)) done (new_of k f, us)
+      ap (λ (o : Option ℕ). put_in o (λ t. (t.0, insert k p t.1)) (f, insert k p []) (done ++ ((f, us) ∷ [])))
+      (pick_end (λ (t : Branch (suc k)). same_id k f t.0) (which_at k) done (f, us) fresh (id-self k low f))
+      ∙ change-end (λ t. (t.0, insert k p t.1)) done (f, us)
 
-  start : (p : Item k) → insert (suc k) (f, p) done ≡ done ++ ((new_of k f, insert k p []) ∷ [])
+  start : (p : Item k) → insert (suc k) (f, p) done ≡ done ++ ((f, insert k p []) ∷ [])
   unfolding upsert
   start p =
-      ap (λ (o : Option ℕ). put_in o (λ t. (t.0, insert k p t.1)) (new_of k f, insert k p []) done)
-      (pick-none (λ (t : Branch (suc k)). has_id k f t.0) (which_at k) done fresh)
+      ap (λ (o : Option ℕ). put_in o (λ t. (t.0, insert k p t.1)) (f, insert k p []) done)
+      (pick-none (λ (t : Branch (suc k)). same_id k f t.0) (which_at k) done fresh)
 
-  grows : (us : List (Branch k)) (ps : List (Item k)) → adds (map (insert (suc k)) (map (under k f) ps)) (done ++ ((new_of k f, us) ∷ [])) ≡ done ++ ((new_of k f, adds (map (insert k) ps) us) ∷ [])
+  grows : (us : List (Branch k)) (ps : List (Item k)) → adds (map (insert (suc k)) (map (under k f) ps)) (done ++ ((f, us) ∷ [])) ≡ done ++ ((f, adds (map (insert k) ps) us) ∷ [])
   grows us [] = refl
   grows us (p ∷ ps) = ap (adds (map (insert (suc k)) (map (under k f) ps))) (grow us p) ∙ grows (insert k p us) ps
 
-  one-branch : (ps : List (Item k)) → Full ps → adds (map (insert (suc k)) (map (under k f) ps)) done ≡ done ++ ((new_of k f, adds (map (insert k) ps) []) ∷ [])
+  one-branch : (ps : List (Item k)) → Full ps → adds (map (insert (suc k)) (map (under k f) ps)) done ≡ done ++ ((f, adds (map (insert k) ps) []) ∷ [])
   one-branch [] h = absurd (false≢true h)
   one-branch (p ∷ ps) h = ap (adds (map (insert (suc k)) (map (under k f) ps))) (start p) ∙ grows (insert k p []) ps
 
 -- ---- and to a list of them
 
--- the children's additions give the children, unmodified
+-- the children's additions give the children
 record Whole (k : ℕ) (t : Branch (suc k)) : Type 0 where
   some : Full (items k t.1)
-  whole : adds (map (insert k) (items k t.1)) [] ≡ map (bare k) t.1
+  whole : adds (map (insert k) (items k t.1)) [] ≡ t.1
 
 -- no id of the second list is one of the first
 abbrev Apart : (k : ℕ) → List (Branch (suc k)) → List (Branch (suc k)) → Type 0
-Apart k done ts = All (λ u. None (λ (t : Branch (suc k)). has_id k (id_of k u.0) t.0) done) ts
+Apart k done ts = All (λ u. None (λ (t : Branch (suc k)). same_id k u.0 t.0) done) ts
 
 none_any : {A : Type 0} (p : A → Bool) (xs : List A) → not (any p xs) ≡ true → None p xs
 none_any p [] h = tt
@@ -108,31 +108,27 @@ both-All g [] p q = tt
 both-All g (x ∷ xs) p q = (g x p.0 q.0, both-All g xs p.1 q.1)
 
 -- one more before the rest
-apart_next : (k : ℕ) → k ≤ 2 → (done : List (Branch (suc k))) (t : Branch (suc k)) (ts : List (Branch (suc k))) → Apart k done ts → not (any (λ u. same_id k (id_of k t.0) (id_of k u.0)) ts) ≡ true
-    → Apart k (done ++ (bare (suc k) t ∷ [])) ts
-unfolding bare
+apart_next : (k : ℕ) → k ≤ 2 → (done : List (Branch (suc k))) (t : Branch (suc k)) (ts : List (Branch (suc k))) → Apart k done ts → not (any (λ u. same_id k t.0 u.0) ts) ≡ true
+    → Apart k (done ++ (t ∷ [])) ts
 apart_next k low done t ts h d =
-    let f = id_of k t.0 in
-    both-All (λ u n e. All-append _ done (bare (suc k) t ∷ []) n (id-apart k f (id_of k u.0) e (id_of k (new_of k f)) (has_new k low f), tt)) ts h (none_any (λ u. same_id k f (id_of k u.0)) ts d)
+    both-All (λ u n e. All-append _ done (t ∷ []) n (id-apart k t.0 u.0 e t.0 (id-self k low t.0), tt)) ts h (none_any (λ u. same_id k t.0 u.0) ts d)
 
-rebuild-from : (k : ℕ) → k ≤ 2 → (done ts : List (Branch (suc k))) → Apart k done ts → distinct k ts ≡ true → All (Whole k) ts → adds (map (insert (suc k)) (items (suc k) ts)) done ≡ done ++ map (bare (suc k)) ts
-unfolding items distinct bare
+rebuild-from : (k : ℕ) → k ≤ 2 → (done ts : List (Branch (suc k))) → Apart k done ts → distinct k ts ≡ true → All (Whole k) ts → adds (map (insert (suc k)) (items (suc k) ts)) done ≡ done ++ ts
+unfolding items distinct
 rebuild-from k low done [] h d o = sym (append-nil done)
 rebuild-from k low done (t ∷ ts) h d o =
-    let f = id_of k t.0 in
-    let b = and_both (not (any (λ u. same_id k f (id_of k u.0)) ts)) (distinct k ts) d in
-    let mine = map (under k f) (items k t.1) in
+    let b = and_both (not (any (λ u. same_id k t.0 u.0) ts)) (distinct k ts) d in
+    let mine = map (under k t.0) (items k t.1) in
     let rest = items (suc k) ts in
     ap (λ (fs : List (List (Branch (suc k)) → List (Branch (suc k)))). adds fs done) (map-append (insert (suc k)) mine rest)
     ∙ adds-append (map (insert (suc k)) mine) (map (insert (suc k)) rest) done
-    ∙ ap (adds (map (insert (suc k)) rest)) (one-branch k low f done h.0 (items k t.1) o.0.some ∙ ap (λ (us : List (Branch k)). done ++ ((new_of k f, us) ∷ [])) o.0.whole)
-    ∙ rebuild-from k low (done ++ (bare (suc k) t ∷ [])) ts (apart_next k low done t ts h.1 b.0) b.1 o.1
-    ∙ append_assoc done (bare (suc k) t ∷ []) (map (bare (suc k)) ts)
+    ∙ ap (adds (map (insert (suc k)) rest)) (one-branch k low t.0 done h.0 (items k t.1) o.0.some ∙ ap (λ (us : List (Branch k)). done ++ ((t.0, us) ∷ [])) o.0.whole)
+    ∙ rebuild-from k low (done ++ (t ∷ [])) ts (apart_next k low done t ts h.1 b.0) b.1 o.1
+    ∙ append_assoc done (t ∷ []) ts
 
-append-all : (done atoms : List (Branch 0)) → adds (map (insert 0) atoms) done ≡ done ++ map (bare 0) atoms
-unfolding bare
+append-all : (done atoms : List (Branch 0)) → adds (map (insert 0) atoms) done ≡ done ++ atoms
 append-all done [] = sym (append-nil done)
-append-all done (a ∷ atoms) = append-all (done ++ (a ∷ [])) atoms ∙ append_assoc done (a ∷ []) (map (bare 0) atoms)
+append-all done (a ∷ atoms) = append-all (done ++ (a ∷ [])) atoms ∙ append_assoc done (a ∷ []) atoms
 
 all-false : {A : Type 0} {P : A → Type 0} → ((x : A) → P x) → (xs : List A) → All P xs
 all-false g [] = tt
@@ -147,10 +143,10 @@ some-items (suc k) (t ∷ ts) h n =
     let b = and_both (distinct k (t ∷ ts)) _ h in
     let c = and_both (not (is_empty t.1) && tidy k t.1) _ b.1 in
     let d = and_both (not (is_empty t.1)) (tidy k t.1) c.0 in
-    full-append (map (under k (id_of k t.0)) (items k t.1)) (items (suc k) ts) (full-map (under k (id_of k t.0)) (items k t.1) (some-items k t.1 d.1 d.0))
+    full-append (map (under k t.0) (items k t.1)) (items (suc k) ts) (full-map (under k t.0) (items k t.1) (some-items k t.1 d.1 d.0))
 
 -- THE LAW, over the level
-rebuild : (k : ℕ) → k ≤ 3 → (ts : List (Branch k)) → tidy k ts ≡ true → adds (map (insert k) (items k ts)) [] ≡ map (bare k) ts
+rebuild : (k : ℕ) → k ≤ 3 → (ts : List (Branch k)) → tidy k ts ≡ true → adds (map (insert k) (items k ts)) [] ≡ ts
 unfolding tidy items
 rebuild zero h ts d = append-all [] ts
 rebuild (suc k) h ts d =
@@ -165,14 +161,14 @@ into-items : (ps : List (Item 3)) → map into (map line_at ps) ≡ map (insert 
 into-items [] = refl
 into-items (p ∷ ps) = λ i. into-is (line_at p) i ∷ into-items ps i
 
-model-back : (t : Branch 4) → tidy 3 t.1 ≡ true → into_all (entry_of t).atoms [] ≡ map (bare 3) t.1
+model-back : (t : Branch 4) → tidy 3 t.1 ≡ true → into_all (entry_of t).atoms [] ≡ t.1
 model-back t h =
     ap (λ (ls : List AtomLine). into_all ls []) (lines_are t)
     ∙ ap (λ (fs : List (List (Branch 3) → List (Branch 3))). adds fs []) (into-items (items 3 t.1))
     ∙ rebuild 3 (le_refl 3) t.1 h
 
-pub build-back : (m : Machine) → tidy_machine m ≡ true → build (map entry_of m) ≡ bare_machine m
-unfolding build entry_of bare
+pub build-back : (m : Machine) → tidy_machine m ≡ true → build (map entry_of m) ≡ m
+unfolding build entry_of
 build-back [] h = refl
 build-back (t ∷ ts) h =
     let b = and_both (tidy 3 t.1) (tidy_machine ts) h in

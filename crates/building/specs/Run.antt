@@ -6,7 +6,7 @@ use Rattle.std.proofs.lemmas.Bool.{lt-leb}
 use Rattle.machine.specs.Lists.{all, sum, splice}
 use Rattle.machine.specs.Answer.{Result, ok, refused, ◌>>=◌, ◌>>◌, need, position}
 use Rattle.machine.specs.Text.{stored_by, atom_name}
-use Rattle.machine.specs.Record.{Model, good_label, good_fields, good_values}
+use Rattle.machine.specs.Record.{Model, good_fields, good_values}
 use Rattle.machine.specs.Store.{Branch, Machine, flat, records, capacity}
 use Rattle.machine.specs.Edit.{Change, changed, next, Call, AddModel, AddAtom, machine_step, add_model, add_prepared, fits, branch_at, replace_at, prepare, new_atom, into_chains}
 use Rattle.machine.specs.Lines.{AtomLine, Entry}
@@ -29,7 +29,7 @@ unfolding good_line good_fields prepared_of
 values l g =
     let p = and_both (good_fields 3 l.chain) _ g in
     let q = and_both (good_fields 2 l.residue) _ p.1 in
-    let r = and_both (good_label l.conformer) (good_fields 0 l.atom) q.1 in
+    let r = and_both (good_fields 1 l.conformer) (good_fields 0 l.atom) q.1 in
     (and_both (stored_by atom_name l.atom.name) (good_values l.atom) r.1).1
 
 -- an atom added to the last model

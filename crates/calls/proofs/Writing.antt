@@ -28,7 +28,6 @@ use Rattle.machine.specs.Edit.{
   JoinResidues,
   JoinConformers,
   SetElement,
-  SetModification,
 }
 use Rattle.laws.specs.Lists.{All, and_both}
 use Rattle.calls.specs.Format.{rows, is_code, numbers_in, trees_in, parts_in, call_of, good_part, read_parts, read_call, longest, read_calls}
@@ -66,7 +65,6 @@ form_of (JoinChains i c i' c') = record { code = 14; numbers = i ∷ c ∷ i' �
 form_of (JoinResidues i c r i' c' r') = record { code = 15; numbers = i ∷ c ∷ r ∷ i' ∷ c' ∷ r' ∷ []; parts = []; fits = refl }
 form_of (JoinConformers i c r f i' c' r' f') = record { code = 16; numbers = i ∷ c ∷ r ∷ f ∷ i' ∷ c' ∷ r' ∷ f' ∷ []; parts = []; fits = refl }
 form_of (SetElement i c r f a e) = record { code = 17; numbers = i ∷ c ∷ r ∷ f ∷ a ∷ e ∷ []; parts = []; fits = refl }
-form_of (SetModification i c r f name comment) = record { code = 18; numbers = i ∷ c ∷ r ∷ f ∷ []; parts = name ∷ comment ∷ []; fits = refl }
 
 abbrev pub part_words : List (List ℕ) → List ℕ
 part_words ps = concat_map (λ (p : List ℕ). length p ∷ p) ps

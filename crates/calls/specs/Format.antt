@@ -25,7 +25,6 @@ use Rattle.machine.specs.Edit.{
   JoinResidues,
   JoinConformers,
   SetElement,
-  SetModification,
 }
 
 -- ---- the calls, in the order of `Call`: code 1 is the first row's
@@ -64,7 +63,6 @@ rows =
     ∷ row 6 0 0 (λ n p. JoinResidues (n 0) (n 1) (n 2) (n 3) (n 4) (n 5))
     ∷ row 8 0 0 (λ n p. JoinConformers (n 0) (n 1) (n 2) (n 3) (n 4) (n 5) (n 6) (n 7))
     ∷ row 6 0 0 (λ n p. SetElement (n 0) (n 1) (n 2) (n 3) (n 4) (n 5))
-    ∷ row 4 2 0 (λ n p. SetModification (n 0) (n 1) (n 2) (n 3) (p 0) (p 1))
     ∷ []
 
 abbrev pub is_code : ℕ → Bool

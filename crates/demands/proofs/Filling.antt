@@ -25,12 +25,12 @@ use Rattle.demands.proofs.Demand.{find-listed, start-found}
 
 -- ---- an accepted call
 
-pub record Done (w : List ℕ) (c : Call) : Type 0 where
-  pub machine : Machine
-  pub holds : read_store w ≡ ok machine
-  pub change : Change
-  pub steps : machine_step (length w) machine c ≡ ok change
-  pub words : (store_step w c).1 ≡ lay_out (length w) change.after
+record Done (w : List ℕ) (c : Call) : Type 0 where
+  machine : Machine
+  holds : read_store w ≡ ok machine
+  change : Change
+  steps : machine_step (length w) machine c ≡ ok change
+  words : (store_step w c).1 ≡ lay_out (length w) change.after
 
 done : (w : List ℕ) (c : Call) → Accepted (store_step w c) → Done w c
 unfolding store_step step_by
@@ -45,7 +45,7 @@ done w c a = go (read_store w) refl a
     go (refused x) e h = absurd (false≢true (sym (refusal-number x) ∙ (rw e at h)))
 
 -- what it leaves is a store again
-pub read-after : (w : List ℕ) (c : Call) (d : Done w c) → read_store (store_step w c).1 ≡ ok d.change.after
+read-after : (w : List ℕ) (c : Call) (d : Done w c) → read_store (store_step w c).1 ≡ ok d.change.after
 read-after w c d =
     let fit : Fit (length w) d.change.after = rw d.steps at (step_keeps (length w) d.machine c (read-fit w d.machine d.holds)) in
     ap read_store d.words ∙ read-lay_out (length w) d.change.after (read_length w d.machine d.holds) fit

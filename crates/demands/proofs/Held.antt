@@ -5,11 +5,10 @@ use mathlib.Core.Bool.{true}
 use mathlib.Core.List.{List, [], ◌∷◌, ◌++◌, map}
 use lib.ListN.{take, drop, take-append-drop}
 use Rattle.machine.specs.Lists.{all, concat_map}
-use Rattle.machine.specs.Record.{Fields, label, words, good_label, good_fields}
+use Rattle.machine.specs.Record.{Fields, words, good_fields}
 use Rattle.machine.specs.Store.{Branch, Machine, flat, records, chunks}
 use Rattle.machine.specs.Lines.{fitting, AtomLine, atom_columns, model_columns, end_columns, entry_lines, entry_of, lines_of, writable}
 use Rattle.machine.specs.LinesIn.{good_line}
-use Rattle.machine.specs.Read.{Id, id_of}
 use Rattle.laws.specs.Lists.{All, All-map, All-over, All-append, All-left, All-right, and_both, and-true, all_split}
 use Rattle.laws.specs.Good.{good_branch}
 use Rattle.laws.specs.Places.{good-parts}
@@ -33,21 +32,11 @@ record Held (k : ℕ) (f : Fields k) : Type 0 where
   good : good_fields k f ≡ true
   small : U64 (words k f)
 
--- the id of one: of a conformer a line sees the label alone
-abbrev HeldId : (k : ℕ) → Id k → Type 0
-HeldId zero f = good_label f ≡ true
-HeldId (suc k) f = Held (suc (suc k)) f
-
-held-id : (k : ℕ) (f : Fields (suc k)) → Held (suc k) f → HeldId k (id_of k f)
-unfolding good_fields
-held-id zero f h = (and_both (good_label (label f)) _ h.good).0
-held-id (suc k) f h = h
-
 -- ---- every line of a store's machine
 
 abbrev HeldItem : (k : ℕ) → Item k → Type 0
 HeldItem zero a = Held zero a
-HeldItem (suc k) p = HeldId k p.0 × HeldItem k p.1
+HeldItem (suc k) p = Held (suc k) p.0 × HeldItem k p.1
 
 held_items : (k : ℕ) (ts : List (Branch k)) → all (good_branch k) ts ≡ true → All U64 (concat_map (flat k) ts) → All (HeldItem k) (items k ts)
 unfolding items good_branch flat
@@ -61,9 +50,9 @@ held_items (suc k) (t ∷ ts) g s =
     let c = and_both (good_fields (suc k) t.0) (all (good_branch k) t.1) b.0 in
     let own = All-left U64 (flat (suc k) t) (concat_map (flat (suc k)) ts) s in
     let below = held_items k t.1 c.1 own.1 in
-    let mine = held-id k t.0 (record { good = c.0; small = own.0 }) in
-    All-append (HeldItem (suc k)) (map (λ p. (id_of k t.0, p)) (items k t.1)) (items (suc k) ts)
-    (All-over (HeldItem (suc k)) (λ p. (id_of k t.0, p)) (items k t.1) (All-map (λ p h. (mine, h)) (items k t.1) below))
+    let mine : Held (suc k) t.0 = record { good = c.0; small = own.0 } in
+    All-append (HeldItem (suc k)) (map (λ p. (t.0, p)) (items k t.1)) (items (suc k) ts)
+    (All-over (HeldItem (suc k)) (λ p. (t.0, p)) (items k t.1) (All-map (λ p h. (mine, h)) (items k t.1) below))
     (held_items (suc k) ts b.1 (All-right U64 (flat (suc k) t) (concat_map (flat (suc k)) ts) s))
 
 line-ready : (p : Item 3) → HeldItem 3 p → all fitting (atom_columns (line_at p)) ≡ true → Ready (line_at p)
@@ -74,7 +63,7 @@ line-ready p h f =
     let n = h.1.1.0 in
     let a = h.1.1.1 in
     record {
-      good = and-true c.good (and-true r.good (and-true n a.good));
+      good = and-true c.good (and-true r.good (and-true n.good a.good));
       fits = f;
       words =
           record {

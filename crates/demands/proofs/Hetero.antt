@@ -7,7 +7,7 @@ use mathlib.Core.Option.{Option, none, some}
 use borrow.Author.Tests.{not-true}
 use Rattle.machine.specs.Lists.{is_some, any, keep, filter, and_then}
 use Rattle.machine.specs.Answer.{Result, ok, refused}
-use Rattle.machine.specs.Record.{ConformerLabel, Atom, read_out}
+use Rattle.machine.specs.Record.{Conformer, Atom, read_out}
 use Rattle.machine.specs.Kleene.{decided, not_t, and_t, xor_t, is_hit, is_true}
 use Rattle.machine.specs.Query.{Place, Names, only_if, between, window, known, member, among_residues, hetero_first, term_value, Stack, step, run, the_one, value_of, read_tree, tree_value}
 use Rattle.machine.specs.Find.{Site}
@@ -68,7 +68,7 @@ filter-within p q r f (x ∷ xs) = go (r x) refl (filter-within p q r f xs)
 
 -- ---- the two terms at a place
 
-module _ (names : Names) (o : Option ConformerLabel) (g : Atom → Bool) where
+module _ (names : Names) (o : Option Conformer) (g : Atom → Bool) where
   abbrev hetero : Option Atom → Tri
   hetero p = known p (λ a. (read_out a).hetero)
 
@@ -76,7 +76,7 @@ module _ (names : Names) (o : Option ConformerLabel) (g : Atom → Bool) where
   now p = known p (λ a. hetero_first a (g a))
 
   -- the conformer's part is what it was
-  among-and : (u : Option ConformerLabel) (x y z : Tri) → x ≡ and_t y z → among_residues names u x ≡ and_t (among_residues names u y) z
+  among-and : (u : Option Conformer) (x y z : Tri) → x ≡ and_t y z → among_residues names u x ≡ and_t (among_residues names u y) z
   among-and none x y z h = h
   among-and (some c) x y z h = go (member names.residues c.name)
     where
@@ -163,7 +163,7 @@ module _ (names : Names) (e : Place) where
       go (some f) = ap (among_residues names e.conformer) (not-hetero names e.conformer (λ a. f (member names.atoms a.name)) e.atom h)
 
 -- exactly one of a test and its opposite is true
-one-true : (names : Names) (o : Option ConformerLabel) (p : Option Atom) (g : Atom → Bool) → known p (λ a. (read_out a).hetero) ≡ True
+one-true : (names : Names) (o : Option Conformer) (p : Option Atom) (g : Atom → Bool) → known p (λ a. (read_out a).hetero) ≡ True
     → xor_t (among_residues names o (known p g)) (among_residues names o (known p (λ a. not (g a)))) ≡ among_residues names o True
 one-true names o none g h = let z : ◌≡◌ {A = Bool} false true = ap is_true h in absurd (false≢true z)
 one-true names none (some a) g h = either (g a)

@@ -2,7 +2,6 @@ pub mod Queries
 pub mod Demand
 pub mod Filling
 pub mod Hetero
-pub mod Modifying
 pub mod Held
 pub mod ReadRun
 pub mod RoundTrip

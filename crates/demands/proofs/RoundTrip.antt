@@ -20,7 +20,6 @@ use Rattle.machine.specs.declared.Refusal.{Refusal}
 use Rattle.machine.specs.declared.Refusal.TheVariants.{NoCapacity, TooWide}
 use Rattle.laws.specs.Lists.{All}
 use Rattle.laws.specs.Layout.{read-lay_out, read_length, read-fit, records-read}
-use Rattle.laws.specs.Labels.{bare_machine, bare-records, bare-entries}
 use Rattle.lines.specs.Fields.{settled, settled_line}
 use Rattle.lines.specs.Text.{settled_entry, text-back}
 use Rattle.lines.specs.Exactly.{read-written}
@@ -90,15 +89,15 @@ comes_back t w r =
       again = ap (λ (a : List ℕ × List ℕ). store_text a.1) e ∙ text-again (length w) t r;
     }
 
--- THE ROUND TRIP: m is the structure in the words w, and t its text. What is read back is m without its modifications, which has the same lines
+-- THE ROUND TRIP: m is the structure in the words w, and t its text
 pub round_trip : (w w₂ : List ℕ) (m : Machine) (t : List ℕ) → U64 w → read_store w ≡ ok m → tidy_machine m ≡ true → store_text w ≡ ok t
     → length w₂ ≡ length w → ComesBack t w₂
 round_trip w w₂ m t small h tidy text same =
     let fit = read-fit w m h in
     let p = written w m t h text in
     let ready = entries-ready m fit.good (subst (All U64) (sym (records-read w m h)) (chunks-small (end w / 12) w small)) p.0 in
-    let after = map (map_atoms 4 settled) (bare_machine m) in
-    let room : length (records after) ≤ capacity (length w₂) = rw (records-alike settled (bare_machine m), bare-records m, same) fit.room in
+    let after = map (map_atoms 4 settled) m in
+    let room : length (records after) ≤ capacity (length w₂) = rw (records-alike settled m, same) fit.room in
     comes_back t w₂
     (record {
       entries = map settled_entry (map entry_of m);
@@ -107,5 +106,5 @@ round_trip w w₂ m t small h tidy text same =
       reads = ap read_text (sym p.1) ∙ text-back (map entry_of m) ready;
       builds = ap build (settled-entries (map entry_of m)) ∙ machine-alike settled m tidy;
       room = room;
-      lines = entries-alike settled (bare_machine m) ∙ ap (map (on_atoms settled)) (bare-entries m) ∙ sym (settled-entries (map entry_of m));
+      lines = entries-alike settled m ∙ sym (settled-entries (map entry_of m));
     })

@@ -2,5 +2,4 @@ pub mod Queries
 pub mod Demand
 pub mod Filling
 pub mod Hetero
-pub mod Modifying
 pub mod Reading

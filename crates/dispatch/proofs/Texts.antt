@@ -106,7 +106,7 @@ abbrev pub spell : ℕ → ℕ → List ℕ → List ℕ
 spell k zero ws = []
 spell k (suc n) ws = get_or ws k 0 ∷ spell (suc k) n ws
 
-pub spelled : (k n : ℕ) (ws : List ℕ) → k + n ≤ length ws → take n (drop k ws) ≡ spell k n ws
+spelled : (k n : ℕ) (ws : List ℕ) → k + n ≤ length ws → take n (drop k ws) ≡ spell k n ws
 spelled k zero ws h = refl
 spelled k (suc n) ws h = rw (drop-cons ws k 0 (omega arith)) (ap (λ (l : List ℕ). get_or ws k 0 ∷ l) (spelled (suc k) n ws (omega arith)))
 

@@ -127,23 +127,6 @@ fn remove_conformer_by_id(store: &mut [u64], words: &[u64], bytes: &[u8]) -> Edi
     )
 }
 
-// The words are a conformer's position, then the standard name and the comment.
-fn set_modification(store: &mut [u64], words: &[u64], bytes: &[u8]) -> Edited
-    requires good { Good store.old }
-    requires words_value { is_some (read_call 18 words.now) ≡ true }
-    requires narrowed { Narrowed words.now bytes.now }
-    ensures { some (edited_numbers result, store.new) ≡ map (store_step store.old) (read_call 18 words.now) }
-{
-    let name = part_end(words, 4);
-    let comment = part_end(words, name);
-    settings::set_modification(
-        store,
-        &words[0..4],
-        &bytes[5..name],
-        &bytes[name + 1..comment],
-    )
-}
-
 // ---- calls of numbers, and of a tree
 
 fn add_model(store: &mut [u64], words: &[u64]) -> Edited
@@ -229,7 +212,6 @@ pub fn run_call(store: &mut [u64], code: u64, words: &[u64], bytes: &[u8]) -> Ed
         11 => remove_atoms_by(store, words),
         12 => remove_empty(store, words),
         17 => set_element(store, words),
-        18 => set_modification(store, words, bytes),
         _ => join(store, code, words),
     }
 }

@@ -6,4 +6,4 @@ abbrev pub version_number : ℕ → ℕ → ℕ → ℕ
 version_number major minor patch = (major * 1000 + minor) * 1000 + patch
 
 abbrev pub version : ℕ
-version = version_number 0 11 0
+version = version_number 0 10 0

@@ -17,12 +17,12 @@ ghost use Rattle.exports.specs.Version.{version};
 use machine::{ApplyAnswer, EditAnswer, FindAnswer, LookupAnswer, NewAtom, WriteAnswer};
 use store::Checked;
 
-// 0.11.0: the millions are the major number, the thousands the minor one.
+// 0.10.0: the millions are the major number, the thousands the minor one.
 #[unsafe(no_mangle)]
 pub extern "C" fn jubrelti_version() -> u64
     ensures { result ≡ version }
 {
-    11_000
+    10_000
 }
 
 // 0 for a good store, else the refusal's number.
@@ -419,25 +419,6 @@ pub extern "C" fn jubrelti_set_element(
     ensures { (edit_fields result, store.new) ≡ store_step store.old (Calls.SetElement model chain residue conformer atom element) }
 {
     let edited = structs::atom::set_element(store, model, chain, residue, conformer, atom, element);
-    answers::of_edited(edited)
-}
-
-#[unsafe(no_mangle)]
-pub extern "C" fn jubrelti_set_modification(
-    store: &mut [u64],
-    model: u64,
-    chain: u64,
-    residue: u64,
-    conformer: u64,
-    name: &[u8],
-    comment: &[u8],
-) -> EditAnswer
-    ensures { (edit_fields result, store.new)
-        ≡ store_step store.old (Calls.SetModification model chain residue conformer name.now comment.now) }
-{
-    let edited = structs::conformer::set_modification(
-        store, model, chain, residue, conformer, name, comment,
-    );
     answers::of_edited(edited)
 }
 

@@ -66,7 +66,7 @@ fn trimmed(text: &[u8]) -> &[u8]
 }
 
 // Whether every byte passes `check_char`.
-pub fn valid_text(text: &[u8]) -> bool
+fn valid_text(text: &[u8]) -> bool
     ensures { result ≡ all plain text.now }
 {
     let mut i: usize = 0;

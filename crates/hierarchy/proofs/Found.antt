@@ -12,7 +12,7 @@ use lib.Dec.{leb}
 use borrow.Author.Tests.{lt-ltb}
 use Rattle.machine.specs.Lists.{filter, concat_map, concat_map_from}
 use Rattle.machine.specs.Answer.{Result, ok, refused, ◌>>=◌, ◌>>◌, position}
-use Rattle.machine.specs.Record.{Fields, Words, label, words, fields_of}
+use Rattle.machine.specs.Record.{Fields, Words, words, fields_of}
 use Rattle.machine.specs.Store.{Branch, Machine, flat, records, stored, laid, lay_out, read_store}
 use Rattle.machine.specs.Kleene.{is_hit}
 use Rattle.machine.specs.Query.{tables, read_tree}
@@ -74,7 +74,7 @@ pub record Shown (w : List ℕ) (s : Site) : Type 0 where
   pub model : some (fields_of 4 (record_of w (numbers_at s.numbers 0).model)) ≡ s.place.model
   pub chain : some (fields_of 3 (record_of w (numbers_at s.numbers 0).chain)) ≡ s.place.chain
   pub residue : some (fields_of 2 (record_of w (numbers_at s.numbers 0).residue)) ≡ s.place.residue
-  pub conformer : some (label (fields_of 1 (record_of w (numbers_at s.numbers 0).conformer))) ≡ s.place.conformer
+  pub conformer : some (fields_of 1 (record_of w (numbers_at s.numbers 0).conformer)) ≡ s.place.conformer
   pub atom : some (fields_of 0 (record_of w (numbers_at s.numbers 0).atom)) ≡ s.place.atom
 
 module _ (w : List ℕ) (m : Machine) (h : read_store w ≡ ok m) where

@@ -2,9 +2,8 @@
 use Prim.Native.Nat.{ℕ, zero, ◌+◌, ◌*◌, ◌/◌, ◌≤◌, ◌<◌}
 use mathlib.Core.Path.{◌≡◌, sym}
 use mathlib.Core.Bool.{Bool, true, false, ◌&&◌}
-use mathlib.Core.List.{List, [], ◌∷◌}
+use mathlib.Core.List.{List}
 use lib.ListN.{length, get_or, take, drop, replicate}
-use lib.Seq.{get_or-drop}
 use lib.Dec.{eqb}
 use lib.IntN.{ℤ}
 use mir.Syntax.{w64}
@@ -14,7 +13,7 @@ use borrow.Author.Tests.{lt-ltb, le-ltb}
 use Rattle.machine.specs.Record.{fields_of, read_out}
 use Rattle.machine.specs.declared.AtomRec.{AtomRec}
 use Rattle.seek.proofs.Below.{record-word}
-use Rattle.hierarchy.specs.Hit.{record_of, is_kind, numbers_at, are_kinds, named_by, nth_of, model_of, chain_of, residue_of, comment_in, conformer_of, atom_of}
+use Rattle.hierarchy.specs.Hit.{record_of, is_kind, numbers_at, are_kinds, named_by, nth_of, model_of, chain_of, residue_of, conformer_of, atom_of}
 use Rattle.machine.specs.declared.RecordNumbers.{RecordNumbers}
 use Rattle.hierarchy.specs.declared.Named.{Named}
 use Rattle.hierarchy.specs.declared.Named.TheVariants.{At, Missing}
@@ -45,15 +44,9 @@ module _ (w : List ℕ) (n : ℕ) where
   unfolding residue_of fields_of
   residue-read e z k f = rw (to_z-of_z k, z, e, f)
 
-  pub comment-read : {a b c d e f g h : ℕ} → a ≡ word 4 → b ≡ word 5 → c ≡ word 6 → d ≡ word 7 → e ≡ word 8 → f ≡ word 9 → g ≡ word 10 → h ≡ word 11
-      → ◌≡◌ {A = List ℕ} (a ∷ b ∷ c ∷ d ∷ e ∷ f ∷ g ∷ h ∷ []) (comment_in w n)
-  unfolding comment_in fields_of
-  comment-read e₁ e₂ e₃ e₄ e₅ e₆ e₇ e₈ = rw (e₁, e₂, e₃, e₄, e₅, e₆, e₇, e₈) (simp get_or-drop)
-
-  pub conformer-read : {a b c : ℕ} {d : List ℕ} → a ≡ word 1 → b ≡ word 2 → c ≡ word 3 → d ≡ comment_in w n
-      → ◌≡◌ {A = ConformerRec} (record { name = a; location = b; standard_name = c; comment = d }) (conformer_of w n)
+  pub conformer-read : {a b : ℕ} → a ≡ word 1 → b ≡ word 2 → ◌≡◌ {A = ConformerRec} (record { name = a; location = b }) (conformer_of w n)
   unfolding conformer_of fields_of
-  conformer-read e f g h = rw (e, f, g, h)
+  conformer-read e f = rw (e, f)
 
   pub atom-there : {a : AtomRec} → n < length w / 12 → a ≡ read_out (fields_of zero (take 12 (drop (n * 12) w))) → a ≡ atom_of w n
   unfolding atom_of

@@ -3,7 +3,7 @@ use Rattle.std.specs.Prelude.{ℕ, ◌+◌, ◌*◌, ◌/◌, Bool, ◌&&◌, co
 use Rattle.std.specs.Borrow.{Bor}
 use Rattle.std.specs.Int.{w64}
 use Rattle.std.proofs.Common.{to_z}
-use Rattle.machine.specs.Record.{Words, comment_words, kind, fields_of, read_out}
+use Rattle.machine.specs.Record.{Words, kind, fields_of, read_out}
 use Rattle.machine.specs.declared.AtomRec.{AtomRec}
 use Rattle.machine.specs.declared.RecordNumbers.{RecordNumbers}
 use Rattle.seek.specs.Seek.{record_at}
@@ -62,13 +62,8 @@ chain_of w r = record { id = (fields_of 3 (record_of w r)).id }
 unfoldable pub residue_of : List ℕ → ℕ → ResidueRec
 residue_of w r = record { serial = to_z w64 (fields_of 2 (record_of w r)).serial; code = (fields_of 2 (record_of w r)).code }
 
-unfoldable pub comment_in : List ℕ → ℕ → List ℕ
-comment_in w r = comment_words (fields_of 1 (record_of w r)).comment
-
 unfoldable pub conformer_of : List ℕ → ℕ → ConformerRec
-conformer_of w r =
-    let c = fields_of 1 (record_of w r) in
-    record { name = c.name; location = c.location; standard_name = c.standard; comment = comment_in w r }
+conformer_of w r = record { name = (fields_of 1 (record_of w r)).name; location = (fields_of 1 (record_of w r)).location }
 
 unfoldable pub atom_of : List ℕ → ℕ → AtomRec
 atom_of w r = read_out (fields_of 0 (record_of w r))

@@ -1,6 +1,6 @@
 // Hits that borrow the store, after hierarchy.rs.
 ghost use Rattle.std.specs.Prelude.{◌≡◌, ◌<◌, get_or};
-ghost use Rattle.hierarchy.specs.Hit.{record_of, is_kind, are_kinds, named_by, nth_of, hit_of, model_of, chain_of, residue_of, comment_in, conformer_of, atom_of};
+ghost use Rattle.hierarchy.specs.Hit.{record_of, is_kind, are_kinds, named_by, nth_of, hit_of, model_of, chain_of, residue_of, conformer_of, atom_of};
 
 use machine::{AtomRec, Record, RecordNumbers};
 
@@ -20,13 +20,10 @@ pub struct ResidueRec {
     pub code: u64,
 }
 
-// Of a conformer that isn't modified the standard name is 0, and so is the comment.
 #[derive(Drop)]
 pub struct ConformerRec {
     pub name: u64,
     pub location: u64,
-    pub standard_name: u64,
-    pub comment: [u64; 8],
 }
 
 // What the five words of a hit name, or that they name nothing.
@@ -88,29 +85,12 @@ pub fn residue_at(store: &[u64], number: u64) -> ResidueRec
     }
 }
 
-fn comment_at(store: &[u64], number: u64) -> [u64; 8]
-    ensures { result ≡ comment_in store.now number }
-{
-    [
-        word(store, number, Record::COMMENT),
-        word(store, number, Record::COMMENT + 1),
-        word(store, number, Record::COMMENT + 2),
-        word(store, number, Record::COMMENT + 3),
-        word(store, number, Record::COMMENT + 4),
-        word(store, number, Record::COMMENT + 5),
-        word(store, number, Record::COMMENT + 6),
-        word(store, number, Record::COMMENT + 7),
-    ]
-}
-
 pub fn conformer_at(store: &[u64], number: u64) -> ConformerRec
     ensures { result ≡ conformer_of store.now number }
 {
     ConformerRec {
         name: word(store, number, Record::CONFORMER_NAME),
         location: word(store, number, Record::LOCATION),
-        standard_name: word(store, number, Record::STANDARD_NAME),
-        comment: comment_at(store, number),
     }
 }
 

@@ -4,7 +4,7 @@ use Rattle.std.specs.Prelude.{ℕ, zero, suc, ◌+◌, ◌*◌, ◌≤◌, ◌�
 use Rattle.std.proofs.Common.{sym, ap, ◌∙◌, append_assoc, append-nil, zero-add, arith, length-append, ne_eqb}
 use Rattle.std.proofs.lemmas.List.{map-append}
 use Rattle.machine.specs.Lists.{sum, concat_map}
-use Rattle.machine.specs.Record.{Chain, Residue, ConformerLabel, Atom, Words, label, words, kind, fields_of}
+use Rattle.machine.specs.Record.{Chain, Residue, Conformer, Atom, Words, words, kind, fields_of}
 use Rattle.machine.specs.Store.{Branch, Machine, flat, records, atom_count, stored}
 use Rattle.machine.specs.Lines.{Column, AtomLine, atom_columns, model_columns, end_columns, entry_lines, entry_of, lines_of, writable, machine_text}
 use Rattle.laws.specs.Lists.{sum-append, sum-concat_map}
@@ -17,14 +17,14 @@ use Rattle.laws.specs.Columns.{lines-length, entries-eighty}
 pub record Parents : Type 0 where
   pub chain : Chain
   pub residue : Residue
-  pub conformer : ConformerLabel
+  pub conformer : Conformer
 
 -- what the atoms after a record stand under, given what those before it did. A model changes nothing: its chains follow it
 unfoldable pub entered : Words → Parents → Parents
 entered r p =
     cond (eqb (kind r) 2) (record { chain = fields_of 3 r; residue = p.residue; conformer = p.conformer })
     (cond (eqb (kind r) 3) (record { chain = p.chain; residue = fields_of 2 r; conformer = p.conformer })
-    (cond (eqb (kind r) 4) (record { chain = p.chain; residue = p.residue; conformer = label (fields_of 1 r) })
+    (cond (eqb (kind r) 4) (record { chain = p.chain; residue = p.residue; conformer = fields_of 1 r })
     p))
 
 abbrev pub line_under : Parents → Atom → AtomLine
@@ -89,18 +89,18 @@ atoms-pass q (a ∷ as') p i rest =
       lines = ap (λ (z : Parents). atom_columns (line_under z a) ∷ flat_lines true p (concat_map (flat 0) as' ++ rest)) i ∙ ap (λ (z : List (List Column)). atom_columns (line_under q a) ∷ z) b.lines;
     }
 
-conformer-pass : (c : Chain) (r : Residue) (t : Branch 1) → Giving (OfResidue c r) (flat 1 t) (map (λ a. record { chain = c; residue = r; conformer = label t.0; atom = a }) t.1)
+conformer-pass : (c : Chain) (r : Residue) (t : Branch 1) → Giving (OfResidue c r) (flat 1 t) (map (λ a. record { chain = c; residue = r; conformer = t.0; atom = a }) t.1)
 unfolding record_lines entered flat words fields_of
 conformer-pass c r t =
-    let q : Parents = record { chain = c; residue = r; conformer = label t.0 } in
-    parent (OfResidue c r) (OfConformer q) _ _ _ (λ p. refl) (λ p i j. record { chain = i.0 j; residue = i.1 j; conformer = label t.0 }) (λ p i. (ap (λ (z : Parents). z.chain) i, ap (λ (z : Parents). z.residue) i)) (atoms-pass q t.1)
+    let q : Parents = record { chain = c; residue = r; conformer = t.0 } in
+    parent (OfResidue c r) (OfConformer q) _ _ _ (λ p. refl) (λ p i j. record { chain = i.0 j; residue = i.1 j; conformer = t.0 }) (λ p i. (ap (λ (z : Parents). z.chain) i, ap (λ (z : Parents). z.residue) i)) (atoms-pass q t.1)
 
-residue-pass : (c : Chain) (t : Branch 2) → Giving (OfChain c) (flat 2 t) (concat_map (λ f. map (λ a. record { chain = c; residue = t.0; conformer = label f.0; atom = a }) f.1) t.1)
+residue-pass : (c : Chain) (t : Branch 2) → Giving (OfChain c) (flat 2 t) (concat_map (λ f. map (λ a. record { chain = c; residue = t.0; conformer = f.0; atom = a }) f.1) t.1)
 unfolding record_lines entered flat words fields_of
 residue-pass c t =
     parent (OfChain c) (OfResidue c t.0) _ _ _ (λ p. refl) (λ p i. (i, refl)) (λ p i. i.0) (siblings (OfResidue c t.0) (flat 1) _ (conformer-pass c t.0) t.1)
 
-chain-pass : (t : Branch 3) → Giving (λ p. Unit {0}) (flat 3 t) (concat_map (λ r. concat_map (λ f. map (λ a. record { chain = t.0; residue = r.0; conformer = label f.0; atom = a }) f.1) r.1) t.1)
+chain-pass : (t : Branch 3) → Giving (λ p. Unit {0}) (flat 3 t) (concat_map (λ r. concat_map (λ f. map (λ a. record { chain = t.0; residue = r.0; conformer = f.0; atom = a }) f.1) r.1) t.1)
 unfolding record_lines entered flat words fields_of
 chain-pass t =
     parent (λ p. Unit {0}) (OfChain t.0) _ _ _ (λ p. refl) (λ p i. refl) (λ p i. tt) (siblings (OfChain t.0) (flat 2) _ (residue-pass t.0) t.1)

@@ -1,7 +1,6 @@
 pub mod Lists
 pub mod Counting
 pub mod Packing
-pub mod Comments
 pub mod Text
 pub mod Good
 pub mod Grouped
@@ -21,5 +20,4 @@ pub mod Flat
 pub mod Places
 pub mod Sites
 pub mod Elements
-pub mod Labels
 pub mod Steps

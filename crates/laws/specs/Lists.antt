@@ -4,7 +4,7 @@ use Rattle.std.proofs.Common.{◌∙◌, append_assoc, arith, length-append, eqb
 use Rattle.std.proofs.lemmas.Bool.{false≢true}
 use Rattle.std.proofs.Math.Bool.{and_assoc}
 use Rattle.std.proofs.Math.Option.{Option, none, some}
-use Rattle.machine.specs.Lists.{is_empty, all, sum, concat_map, and_then, same}
+use Rattle.machine.specs.Lists.{all, sum, concat_map, and_then, same}
 
 pub and_both : (a b : Bool) → a && b ≡ true → (a ≡ true) × (b ≡ true)
 and_both true b h = (refl, h)
@@ -36,10 +36,6 @@ then_never none f h = refl
 then_never (some x) f h = h x
 
 module _ {A : Type 0} where
-  pub empty-nil : (xs : List A) → is_empty xs ≡ true → xs ≡ []
-  empty-nil [] h = refl
-  empty-nil (x ∷ xs) h = absurd (false≢true h)
-
   abbrev pub All : (A → Type 0) → List A → Type 0
   All P [] = Unit {0}
   All P (x ∷ xs) = P x × All P xs

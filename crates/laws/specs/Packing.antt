@@ -26,7 +26,7 @@ packed-before n b [] = go (eqb b 0) refl
 packed-before n b (c ∷ cs) = rw and-false
 
 -- zero bytes at the end add nothing
-pub packed-without_zeros : (n : ℕ) (t : List ℕ) → packed n (without_zeros t) ≡ packed n t
+packed-without_zeros : (n : ℕ) (t : List ℕ) → packed n (without_zeros t) ≡ packed n t
 unfolding packed without_zeros
 packed-without_zeros n [] = refl
 packed-without_zeros zero (b ∷ bs) = packed_none (without_zeros (b ∷ bs))
@@ -83,13 +83,13 @@ plain-is b h =
 abbrev pub Bytes : List ℕ → Type 0
 Bytes t = (i : ℕ) → get_or t i 0 < 256
 
-pub plain-bytes : (t : List ℕ) → all plain t ≡ true → Bytes t
+plain-bytes : (t : List ℕ) → all plain t ≡ true → Bytes t
 plain-bytes [] h i = omega arith
 plain-bytes (b ∷ bs) h zero = omega (arith, (plain-is b (and_both (plain b) (all plain bs) h).0).high)
 plain-bytes (b ∷ bs) h (suc i) = plain-bytes bs (and_both (plain b) (all plain bs) h).1 i
 
 -- n bytes are below 256 ^ n
-pub packed-small : (n : ℕ) (t : List ℕ) → Bytes t → packed n t < 256 ^ n
+packed-small : (n : ℕ) (t : List ℕ) → Bytes t → packed n t < 256 ^ n
 unfolding packed
 packed-small n [] h = one-le-pow n 256 (omega arith)
 packed-small zero (b ∷ bs) h = omega arith

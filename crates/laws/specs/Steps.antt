@@ -1,6 +1,6 @@
 -- Each of the calls keeps a machine good and within its store, and counts its atoms right. Assumes nothing.
 use Rattle.std.specs.Prelude.{ℕ, zero, suc, ◌+◌, ◌≤◌, ◌≡◌, refl, Bool, true, false, not, ◌&&◌, cond, length, leb, eqb}
-use Rattle.std.proofs.Common.{sym, ap, ◌∙◌, subst, arith, leb-true, ne_eqb}
+use Rattle.std.proofs.Common.{sym, ap, ◌∙◌, arith, leb-true, ne_eqb}
 use Rattle.std.proofs.Math.Bool.{or-true}
 use mathlib.Core.List.{List, [], ◌∷◌, ◌++◌, map}
 use Rattle.std.proofs.Math.Option
@@ -8,13 +8,13 @@ use Rattle.std.proofs.Math.Option.{Option, none, some}
 use Rattle.std.proofs.lemmas.Bool.{not-true}
 use Rattle.machine.specs.Lists.{is_empty, or_else, all, sum, keep, filter, nth, splice, first_where, last_where, same}
 use Rattle.machine.specs.Answer.{Result, ok, refused, ◌>>=◌, ◌>>◌, need, position, refusal_number}
-use Rattle.machine.specs.Text.{Optional, chain_id, insertion_code, conformer_name, alternative_location, atom_name, plain, trim, to_upper, pack, fit, packed_text, packed_in, good_standard_name, good_comment, uppercase_or, by_flag, optional, stored_by, absent_or}
-use Rattle.machine.specs.Record.{Fields, Conformer, Atom, label, finite, is_element, good_label, good_modification, good_fields, good_values}
+use Rattle.machine.specs.Text.{Optional, chain_id, insertion_code, conformer_name, alternative_location, atom_name, plain, trim, to_upper, pack, fit, uppercase_or, by_flag, optional, stored_by, absent_or}
+use Rattle.machine.specs.Record.{Fields, Atom, finite, is_element, good_fields, good_values}
 use Rattle.machine.specs.Store.{Branch, Machine, records, flat, stored, capacity, atom_count}
 use Rattle.machine.specs.Query.{read_tree}
-use Rattle.machine.specs.Edit.{Addition, Call, AddModel, AddAtom, RemoveChain, RemoveResidue, RemoveConformer, RemoveAtom, RemoveChainById, RemoveResidueById, RemoveConformerById, RemoveAtomBySerialNumber, RemoveAtomsBy, RemoveEmpty, JoinModels, JoinChains, JoinResidues, JoinConformers, SetElement, SetModification, Change, up, branch_at, replace_at, fits, add_model, accept, prepare, new_atom, Which, first, last, pick, put_in, upsert, into_chains, add_prepared, add_atom, remove_at, root, with_children, without, remove_first, with_found, keep_atoms, remove_atoms_by, non_empty, remove_empty, join_at, with_machine, with_fields, refielded, set_at, with_element, fill_in, with_modification, modify, machine_step, answer, next}
+use Rattle.machine.specs.Edit.{Addition, Call, AddModel, AddAtom, RemoveChain, RemoveResidue, RemoveConformer, RemoveAtom, RemoveChainById, RemoveResidueById, RemoveConformerById, RemoveAtomBySerialNumber, RemoveAtomsBy, RemoveEmpty, JoinModels, JoinChains, JoinResidues, JoinConformers, SetElement, Change, up, branch_at, replace_at, fits, add_model, accept, prepare, new_atom, Which, first, last, pick, put_in, upsert, into_chains, add_prepared, add_atom, remove_at, root, with_children, without, remove_first, with_found, keep_atoms, remove_atoms_by, non_empty, remove_empty, join_at, with_machine, with_fields, refielded, set_at, with_element, fill_in, machine_step, answer, next}
 use Rattle.machine.specs.declared.Refusal.{Refusal}
-use Rattle.machine.specs.declared.Refusal.TheVariants.{BadLength, BrokenLayout, TreeShape, TreeNode, NoPosition, BadIdentifier, BadValue, NoCapacity, JoinWithItself, ShortOutput, BadFile, TooWide, ShortText, BadInsertionCode, BadConformer, BadAtomName, BadText, BadModification, BadList, ShortAnswers}
+use Rattle.machine.specs.declared.Refusal.TheVariants.{BadLength, BrokenLayout, TreeShape, TreeNode, NoPosition, BadIdentifier, BadValue, NoCapacity, JoinWithItself, ShortOutput, BadFile, TooWide, ShortText, BadInsertionCode, BadConformer, BadAtomName, BadText, BadList, ShortAnswers}
 use Rattle.machine.specs.declared.Name.{Name}
 use Rattle.machine.specs.declared.Name.TheVariants.{ChainId, InsertionCode, ConformerName, AlternativeLocation, AtomName}
 use Rattle.machine.specs.declared.Prepared.{Prepared}
@@ -22,8 +22,6 @@ use Rattle.machine.specs.declared.PreparedAddition.{PreparedAddition}
 use Rattle.machine.specs.declared.Prepared.TheVariants.{Stored, Absent, Bad}
 use Rattle.machine.specs.Demand.{added_by, removed_by}
 use Rattle.laws.specs.Lists.{and_both, and-true, sum-append, length-concat_map}
-use Rattle.laws.specs.Packing.{text_of-pack}
-use Rattle.laws.specs.Comments.{empty-word, text_in-packed_in}
 use Rattle.laws.specs.Good.{good_branch, Fit}
 use Rattle.laws.specs.Text.{chain_id-stored, insertion_code-stored, conformer_name-stored, alternative_location-stored, atom_name-stored}
 use Rattle.laws.specs.Places.{Measure, size, atoms, splice-sum, splice_all, all_append, good-parts, good-children, replace-sum, replace-all, branch-good, branch_at-other, same-measure, root-good, fields-good}
@@ -225,28 +223,6 @@ fill_in-good e a b h g = go (is_element e) refl (eqb a.element 0) h
     go true p false q = let n : ◌≡◌ {A = ℕ} 0 1 = cc in absurd (omega arith)
     go true p true q = let i : with_element e a ≡ b = cc in rw i at (element-good e a (and_both (leb 1 e) (leb e 118) p).1 g)
 
--- a modification that is taken is good in the layout
-modification-good : (name comment : List ℕ) → good_standard_name name ≡ true → good_comment comment ≡ true → good_modification (pack name) (packed_in 8 comment) ≡ true
-unfolding good_modification packed_text
-modification-good name comment g h =
-    let p = and_both (all plain name) (not (is_empty name) && leb (length name) 8) g in
-    let q = and_both (not (is_empty name)) (leb (length name) 8) p.1 in
-    let r = and_both (all plain comment) (leb (length comment) 64) h in
-    let e = text_of-pack name (leb-true (length name) 8 q.1) p.0 in
-    let z : eqb (pack name) 0 ≡ false = sym (empty-word (pack name)) ∙ ap is_empty e ∙ not-true (is_empty name) q.0 in
-    rw (z, e, p.0, text_in-packed_in 8 comment (leb-true (length comment) 64 r.1) r.0, r.0)
-
-modify-good : (name comment : List ℕ) (c d : Conformer) → modify name comment c ≡ ok (some d) → good_fields 1 c ≡ true → good_fields 1 d ≡ true
-unfolding good_fields packed_in
-modify-good name comment c d h g = go (good_standard_name name && good_comment comment) refl h
-  where
-    go : (b : Bool) → good_standard_name name && good_comment comment ≡ b → (need b BadModification >> ok (some (with_modification name comment c))) ≡ ok (some d) → good_fields 1 d ≡ true
-    go false p q = let n : ◌≡◌ {A = ℕ} 0 1 = cc in absurd (omega arith)
-    go true p q =
-        let i : with_modification name comment c ≡ d = cc in
-        let v = and_both (good_standard_name name) (good_comment comment) p in
-        subst (λ (z : Conformer). good_fields 1 z ≡ true) i (and-true (and_both (good_label (label c)) _ g).0 (modification-good name comment v.0 v.1))
-
 -- ---- additions
 
 module _ {A : Type 0} where
@@ -378,9 +354,9 @@ module _ (p : PreparedAddition) (g : GoodNames p) (values : good_values (new_ato
   atom-good us h = all_append (good_branch 0) us (new_atom p ∷ []) h (and-true (and-true g.name values) refl)
 
   into_chains-good : (ts : List (Branch 3)) → all (good_branch 3) ts ≡ true → all (good_branch 3) (into_chains p ts) ≡ true
-  unfolding good_fields good_modification
+  unfolding good_fields
   into_chains-good ts h =
-      upsert-good 2 first _ _ _ (upsert-good 1 last _ _ _ (upsert-good 0 first _ _ _ atom-good (and-true (and-true g.conformer g.location) refl)) g.code) g.chain ts h
+      upsert-good 2 first _ _ _ (upsert-good 1 last _ _ _ (upsert-good 0 first _ _ _ atom-good (and-true g.conformer g.location)) g.code) g.chain ts h
 
 -- a machine in a store of n words with k atoms more
 record Grows (n k : ℕ) (m after : Machine) : Type 0 where
@@ -478,7 +454,6 @@ refusal-digits BadInsertionCode = refl
 refusal-digits BadConformer = refl
 refusal-digits BadAtomName = refl
 refusal-digits BadText = refl
-refusal-digits BadModification = refl
 refusal-digits BadList = refl
 refusal-digits ShortAnswers = refl
 
@@ -504,7 +479,6 @@ step n m (JoinChains i c i' c') = machine-step n m _ (λ l. refl) _ (join_at-les
 step n m (JoinResidues i c r i' c' r') = machine-step n m _ (λ l. refl) _ (join_at-less 2 1 (i ∷ c ∷ r ∷ []) (i' ∷ c' ∷ r' ∷ []) m refl refl)
 step n m (JoinConformers i c r f i' c' r' f') = machine-step n m _ (λ l. refl) _ (join_at-less 3 0 (i ∷ c ∷ r ∷ f ∷ []) (i' ∷ c' ∷ r' ∷ f' ∷ []) m refl refl)
 step n m (SetElement i c r f a e) = found-step n m _ (λ l. refl) _ (set_at-less 4 0 (i ∷ c ∷ r ∷ f ∷ a ∷ []) (fill_in e) m (fill_in-good e))
-step n m (SetModification i c r f name comment) = found-step n m _ (λ l. refl) _ (set_at-less 3 1 (i ∷ c ∷ r ∷ f ∷ []) (modify name comment) m (modify-good name comment))
 
 -- each call keeps a machine good and within its store
 pub step_keeps : (n : ℕ) (m : Machine) (c : Call) → Fit n m → Fit n (next m (machine_step n m c))

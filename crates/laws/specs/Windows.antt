@@ -3,7 +3,7 @@ use Rattle.std.specs.Prelude.{ℕ, ◌≤◌, ◌≡◌, refl, Bool, true, false
 use Rattle.std.proofs.lemmas.Bool.{false≢true}
 use Rattle.std.proofs.Math.Option.{Option, none, some}
 use Rattle.std.proofs.Common.{arith, leb-true, le-leb}
-use Rattle.machine.specs.Record.{ConformerLabel, Atom}
+use Rattle.machine.specs.Record.{Conformer, Atom}
 use Rattle.machine.specs.Query.{tree_value, Place, Names, only_if, between, window, known, element_is, member, among_residues, term_value}
 use Rattle.machine.specs.declared.Tri.{Tri}
 use Rattle.machine.specs.declared.Tri.TheVariants.{False, Undecided}
@@ -24,7 +24,7 @@ element-grows true false i o n = absurd (false≢true (i refl))
 element-grows true true i o n = ⊑_refl (element_is n o)
 
 -- the conformer's part: an atom that isn't known leaves it undecided or false
-among-grows : (names : Names) (o : Option ConformerLabel) (x : Tri) → among_residues names o Undecided ⊑ among_residues names o x
+among-grows : (names : Names) (o : Option Conformer) (x : Tri) → among_residues names o Undecided ⊑ among_residues names o x
 among-grows names none x = tt
 among-grows names (some c) x = go (member names.residues c.name)
   where
@@ -34,7 +34,7 @@ among-grows names (some c) x = go (member names.residues c.name)
 
 -- b and c: the conformer is known; d and e: the atom is
 side-grows : (names : Names) (b c d e : Bool) → (b ≡ true → c ≡ true) → (d ≡ true → e ≡ true) → (d ≡ true → b ≡ c)
-    → (o : Option ConformerLabel) (p : Option Atom) (f : Atom → Bool)
+    → (o : Option Conformer) (p : Option Atom) (f : Atom → Bool)
     → among_residues names (only_if b o) (known (only_if d p) f) ⊑ among_residues names (only_if c o) (known (only_if e p) f)
 side-grows names b c true false i j k o p f = absurd (false≢true (j refl))
 side-grows names b c true true i j k o p f = rw (k refl) (⊑_refl (among_residues names (only_if c o) (known p f)))

@@ -4,7 +4,7 @@ use Rattle.std.specs.Prelude.{ℕ, ◌≡◌, refl, Bool, true, false, ◌&&◌,
 use Rattle.std.proofs.Common.{ap, ◌∙◌, sym, arith}
 use Rattle.std.proofs.Math.Option.{none, some}
 use Rattle.machine.specs.Lists.{all, same, concat_map}
-use Rattle.machine.specs.Record.{label, unmodified, good_label, good_modification, good_fields}
+use Rattle.machine.specs.Record.{good_fields}
 use Rattle.machine.specs.Store.{Branch, Machine}
 use Rattle.machine.specs.Lines.{AtomLine, Entry, entry_of, writable, text_of_entries, machine_text}
 use Rattle.machine.specs.LinesIn.{entries_in, good_line, good_entry, read_text}
@@ -32,7 +32,7 @@ read-written t es e = go (all good_entry xs && (writable xs && same (text_of_ent
 -- ---- and it is a machine's: a chain, a residue and a conformer for each atom
 
 abbrev pub spread_atom : AtomLine → Branch 3
-spread_atom l = (l.chain, (l.residue, (unmodified l.conformer, l.atom ∷ []) ∷ []) ∷ [])
+spread_atom l = (l.chain, (l.residue, (l.conformer, l.atom ∷ []) ∷ []) ∷ [])
 
 abbrev pub spread_entry : Entry → Branch 4
 spread_entry e = (e.model, map spread_atom e.atoms)
@@ -45,7 +45,7 @@ unfolding entry_of
 entry-spread e = ap (λ (z : List AtomLine). record { model = e.model; atoms = z }) (atoms e.atoms)
   where
     atoms : (ls : List AtomLine)
-        → concat_map (λ (c : Branch 3). concat_map (λ r. concat_map (λ f. map (λ a. record { chain = c.0; residue = r.0; conformer = label f.0; atom = a }) f.1) r.1) c.1) (map spread_atom ls) ≡ ls
+        → concat_map (λ (c : Branch 3). concat_map (λ r. concat_map (λ f. map (λ a. record { chain = c.0; residue = r.0; conformer = f.0; atom = a }) f.1) r.1) c.1) (map spread_atom ls) ≡ ls
     atoms [] = refl
     atoms (l ∷ ls) = ap (λ (z : List AtomLine). l ∷ z) (atoms ls)
 
@@ -57,11 +57,11 @@ pub spread-text : (es : List Entry) → machine_text (spread es) ≡ text_of_ent
 spread-text es = ap text_of_entries (spread-entries es)
 
 atom-good : (l : AtomLine) → good_line l ≡ true → good_branch 3 (spread_atom l) ≡ true
-unfolding good_line good_fields good_modification good_branch
+unfolding good_line good_branch
 atom-good l g =
     let p = and_both (good_fields 3 l.chain) _ g in
     let q = and_both (good_fields 2 l.residue) _ p.1 in
-    let r = and_both (good_label l.conformer) (good_fields 0 l.atom) q.1 in
+    let r = and_both (good_fields 1 l.conformer) (good_fields 0 l.atom) q.1 in
     rw (p.0, q.0, r.0, r.1)
 
 atoms-good : (ls : List AtomLine) → all good_line ls ≡ true → all (good_branch 3) (map spread_atom ls) ≡ true

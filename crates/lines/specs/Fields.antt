@@ -17,7 +17,7 @@ use Rattle.std.proofs.Math.Facts.{of_z-to_z}
 use Rattle.machine.specs.Lists.{is_empty, all, sum, concat_map}
 use Rattle.machine.specs.Text.{pack, text_of, unpacked, without_zeros, trim, trim_start, blank, plain, to_upper, fit, chain_id, uppercase_or, insertion_code, conformer_name, alternative_location, atom_name, stored_by, stores, absent_or}
 use Rattle.machine.specs.Program.{decimal, newline}
-use Rattle.machine.specs.Record.{Atom, is_finite, finite, good_values, good_label, good_fields}
+use Rattle.machine.specs.Record.{Atom, is_finite, finite, good_values, good_fields}
 use Rattle.machine.specs.Rounding.{rounded}
 use Rattle.machine.specs.Lines.{Column, at_left, at_right, column_text, fitting, blanks, line_of, signed, fixed, negative, charge_text, symbol, indent, AtomLine, name_columns, place_columns, value_columns, element_columns, atom_columns}
 use Rattle.machine.specs.LinesIn.{columns, figures_from, figures, has_minus, signed_bits, decimal_bits, word, element_of, atom_in, good_line}
@@ -241,7 +241,7 @@ pub record Ready (l : AtomLine) : Type 0 where
 record Good (l : AtomLine) : Type 0 where
   chain : good_fields 3 l.chain ≡ true
   residue : good_fields 2 l.residue ≡ true
-  conformer : good_label l.conformer ≡ true
+  conformer : good_fields 1 l.conformer ≡ true
   name : stored_by atom_name l.atom.name ≡ true
   element : leb l.atom.element 118 ≡ true
   hetero : leb l.atom.hetero 1 ≡ true
@@ -252,7 +252,7 @@ good-parts l g =
     let floats = all finite (l.atom.x ∷ l.atom.y ∷ l.atom.z ∷ l.atom.occupancy ∷ l.atom.b_factor ∷ []) in
     let p = and_both (good_fields 3 l.chain) _ g in
     let q = and_both (good_fields 2 l.residue) _ p.1 in
-    let r = and_both (good_label l.conformer) (good_fields 0 l.atom) q.1 in
+    let r = and_both (good_fields 1 l.conformer) (good_fields 0 l.atom) q.1 in
     let t = and_both (stored_by atom_name l.atom.name) (good_values l.atom) r.1 in
     let v = and_both (floats && leb l.atom.element 118) (leb l.atom.hetero 1) t.1 in
     let u = and_both floats (leb l.atom.element 118) v.0 in
@@ -321,7 +321,7 @@ module _ (l : AtomLine) (s : Ready l) where
   name = ap word (column-nth cs 3 s.fits (lit< tt)) ∙ word-left 4 (indent l.atom.name l.atom.element) l.atom.name (name-trimmed l.atom.name good.name)
 
   location : word (columns 17 17 text) ≡ l.conformer.location
-  unfolding atom_columns name_columns place_columns value_columns element_columns
+  unfolding atom_columns name_columns place_columns value_columns element_columns good_fields
   location =
       ap word (column-nth cs 4 s.fits (lit< tt))
       ∙ word-left 1 0 l.conformer.location
@@ -329,7 +329,7 @@ module _ (l : AtomLine) (s : Ready l) where
       (and_both (stored_by conformer_name l.conformer.name) (absent_or alternative_location l.conformer.location) good.conformer).1)
 
   conformer : word (columns 18 20 text) ≡ l.conformer.name
-  unfolding atom_columns name_columns place_columns value_columns element_columns
+  unfolding atom_columns name_columns place_columns value_columns element_columns good_fields
   conformer =
       ap word (column-nth cs 5 s.fits (lit< tt))
       ∙ word-right 3 l.conformer.name

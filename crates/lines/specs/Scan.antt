@@ -12,7 +12,7 @@ use Rattle.machine.specs.Lists.{is_some, is_empty, all, concat_map, same}
 use Rattle.machine.specs.Program.{newline}
 use Rattle.machine.specs.Lines.{Column, column_text, fitting, line_of, AtomLine, atom_columns, model_columns, end_columns, Entry, entry_lines, lines_of, writable, text_of_entries}
 use Rattle.machine.specs.LinesIn.{atom_in, model_in, lines_in, Part, line_before, part_in, entries_in, good_line, good_entry, read_text}
-use Rattle.laws.specs.Lists.{and_both, empty-nil, All, same_true}
+use Rattle.laws.specs.Lists.{and_both, All, same_true}
 use Rattle.lines.specs.Taken.{taken_atom, taken_model, taken_end, opens, taken_line, taken_from, taken_text}
 use Rattle.laws.specs.Columns.{Eighty, line-length, lines-length, atom-eighty, model-eighty, entries-eighty}
 use Rattle.lines.specs.Text.{entry-lines, atom-first}
@@ -233,4 +233,8 @@ module _ (t : List ℕ) where
   unfolding taken_text
   taken-closed h =
       let p = and_both (eqb (length t % 81) 0) (taken_from false ls) h in
-      empty-nil (part_in ls).0 (and_both (is_empty (part_in ls).0) (whole t) (whole-lines p.0 ∙ p.1)).0
+      none (part_in ls).0 (and_both (is_empty (part_in ls).0) (whole t) (whole-lines p.0 ∙ p.1)).0
+    where
+      none : (xs : List AtomLine) → is_empty xs ≡ true → xs ≡ []
+      none [] e = refl
+      none (x ∷ xs) e = absurd (false≢true e)

@@ -9,7 +9,7 @@ use Rattle.std.specs.Float.Ieee.Fits.{round-fits}
 use Rattle.std.specs.Float.Ieee.Bits.{to_bits-lt}
 use Rattle.machine.specs.Lists.{is_empty, all, concat_map}
 use Rattle.machine.specs.Text.{packed, pack, text_of, before, plain, to_upper, trim, fit, chain_id, uppercase_or, insertion_code, conformer_name, alternative_location, atom_name, stored_by, absent_or}
-use Rattle.machine.specs.Record.{unmodified, words, finite, good_values, good_label, good_fields}
+use Rattle.machine.specs.Record.{words, finite, good_values, good_fields}
 use Rattle.machine.specs.Store.{flat, records}
 use Rattle.machine.specs.Lines.{AtomLine, atom_columns, end_columns, Entry, entry_lines, lines_of, writable, text_of_entries}
 use Rattle.machine.specs.LinesIn.{with_figure, figures_from, figures, has_minus, signed_bits, decimal_bits, atom_in, model_in, lines_in, Part, part_in, entries_in, good_line, good_entry}
@@ -134,7 +134,7 @@ line_small l g =
     let floats = all finite (a.atom.x ∷ a.atom.y ∷ a.atom.z ∷ a.atom.occupancy ∷ a.atom.b_factor ∷ []) in
     let p = and_both (good_fields 3 a.chain) _ g in
     let q = and_both (good_fields 2 a.residue) _ p.1 in
-    let r = and_both (good_label a.conformer) (good_fields 0 a.atom) q.1 in
+    let r = and_both (good_fields 1 a.conformer) (good_fields 0 a.atom) q.1 in
     let f = and_both (stored_by conformer_name a.conformer.name) (absent_or alternative_location a.conformer.location) r.0 in
     let t = and_both (stored_by atom_name a.atom.name) (good_values a.atom) r.1 in
     let v = and_both (floats && leb a.atom.element 118) (leb a.atom.hetero 1) t.1 in
@@ -148,7 +148,7 @@ line_small l g =
         (absent-small insertion_code a.residue.code (uppercase-small a.residue.code Bad bad-stores-none) q.0, zeros-small 9),
       ),
     ) in
-    let conformer : Small (words 1 (unmodified a.conformer)) = (
+    let conformer : Small (words 1 a.conformer) = (
       lit< tt,
       (
         uppercase-small a.conformer.name Bad bad-stores-none f.0,

@@ -4,8 +4,8 @@ use Prim.Native.String.{String}
 use Rattle.std.specs.Float.Ieee.{of_bits, sub, lt}
 use Rattle.machine.specs.Lists.{concat_map, bytes}
 use Rattle.machine.specs.Answer.{Result, ok, refused, refusal_number}
-use Rattle.machine.specs.Text.{packed, unpacked, without_zeros, text_of, trim_start, trim, chain_id, uppercase_or, atom_name, matches, stored_by, packed_text, text_in, Optional}
-use Rattle.machine.specs.Record.{Words, words, fields_of, good_values, good_modification, good_fields, good_record, read_out}
+use Rattle.machine.specs.Text.{packed, unpacked, without_zeros, text_of, trim_start, trim, chain_id, uppercase_or, atom_name, matches, stored_by, packed_text, Optional}
+use Rattle.machine.specs.Record.{Words, words, fields_of, good_values, good_fields, good_record, read_out}
 use Rattle.machine.specs.Store.{Machine, stored, flat, atom_count, laid, lay_out, in_order, good_layout, sections, group, read_store}
 use Rattle.machine.specs.Query.{codes, node_of, nodes_of, run, leaves_one, read_tree, tree_value, drop_sign, close, term_value, window, tables, packed_name}
 use Rattle.machine.specs.Find.{enter, atoms_in, atoms_of, atoms_under, hits_of, hits_from, find_run, find_from}
@@ -163,5 +163,5 @@ cases =
     ∷ []
 
 pub worked : map (λ (c : Case). c.given) cases ≡ map (λ (c : Case). c.stated) cases
-unfolding cases S renamed with_bfactor packed unpacked without_zeros text_of trim_start trim chain_id uppercase_or atom_name matches stored_by packed_text text_in words fields_of good_values good_modification good_fields good_record read_out flat atom_count laid lay_out in_order good_layout sections group read_store codes node_of nodes_of run leaves_one read_tree tree_value drop_sign close term_value tables window enter atoms_in atoms_of atoms_under hits_from find_from branch_at replace_at add_model prepare upsert add_prepared machine_step step_by store_step store_after store_answers read_input digits printed program_run undecided of_bits sub lt
+unfolding cases S renamed with_bfactor packed unpacked without_zeros text_of trim_start trim chain_id uppercase_or atom_name matches stored_by packed_text words fields_of good_values good_fields good_record read_out flat atom_count laid lay_out in_order good_layout sections group read_store codes node_of nodes_of run leaves_one read_tree tree_value drop_sign close term_value tables window enter atoms_in atoms_of atoms_under hits_from find_from branch_at replace_at add_model prepare upsert add_prepared machine_step step_by store_step store_after store_answers read_input digits printed program_run undecided of_bits sub lt
 worked = refl

@@ -4,7 +4,7 @@ use Rattle.machine.specs.Lists.{any, filter, sum, same}
 use Rattle.machine.specs.Kleene.{is_undecided}
 use Rattle.machine.specs.Query.{Names}
 use Rattle.machine.specs.Find.{Site, value_from}
-use Rattle.machine.specs.Edit.{Call, AddModel, AddAtom, RemoveChain, RemoveResidue, RemoveConformer, RemoveAtom, RemoveChainById, RemoveResidueById, RemoveConformerById, RemoveAtomBySerialNumber, RemoveAtomsBy, RemoveEmpty, JoinModels, JoinChains, JoinResidues, JoinConformers, SetElement, SetModification}
+use Rattle.machine.specs.Edit.{Call, AddModel, AddAtom, RemoveChain, RemoveResidue, RemoveConformer, RemoveAtom, RemoveChainById, RemoveResidueById, RemoveConformerById, RemoveAtomBySerialNumber, RemoveAtomsBy, RemoveEmpty, JoinModels, JoinChains, JoinResidues, JoinConformers, SetElement}
 
 -- "a call is accepted when its result is 0"
 abbrev pub accepts : List ℕ → Bool
@@ -30,7 +30,6 @@ is_add_atom (JoinChains i c i' c') = false
 is_add_atom (JoinResidues i c r i' c' r') = false
 is_add_atom (JoinConformers i c r f i' c' r' f') = false
 is_add_atom (SetElement i c r f a e) = false
-is_add_atom (SetModification i c r f t u) = false
 
 abbrev pub added_by : Call → List ℕ → ℕ
 added_by c numbers = cond (is_add_atom c && accepts numbers) 1 0

@@ -4,8 +4,8 @@ use Rattle.std.specs.Prelude.{ℕ, zero, suc, ◌-◌, Bool, not, ◌&&◌, cond
 use Rattle.std.proofs.Math.Option.{Option, none, some}
 use Rattle.machine.specs.Lists.{is_empty, filter, nth, splice, first_where, last_where, and_then, same}
 use Rattle.machine.specs.Answer.{Result, ok, refused, ◌>>=◌, ◌>>◌, need, position, if_refused, bad_name, edited_numbers}
-use Rattle.machine.specs.Text.{Optional, chain_id, insertion_code, conformer_name, alternative_location, atom_name, pack, packed_in, good_standard_name, good_comment, optional, good_flag, matches, matches_optional}
-use Rattle.machine.specs.Record.{Fields, Atom, Conformer, Residue, Chain, comment_of, unmodified, is_element, good_values}
+use Rattle.machine.specs.Text.{Optional, chain_id, insertion_code, conformer_name, alternative_location, atom_name, optional, good_flag, matches, matches_optional}
+use Rattle.machine.specs.Record.{Fields, Atom, Conformer, Residue, Chain, is_element, good_values}
 use Rattle.machine.specs.Store.{Branch, Machine, records, stored, capacity, lay_out, read_store}
 use Rattle.machine.specs.Kleene.{is_true}
 use Rattle.machine.specs.Query.{read_tree, tree_value, term_value, tables}
@@ -14,7 +14,7 @@ use Rattle.machine.specs.declared.Prepared.{Prepared}
 use Rattle.machine.specs.declared.Prepared.TheVariants.{Stored, Absent, Bad}
 use Rattle.machine.specs.declared.Name.{Name}
 use Rattle.machine.specs.declared.Name.TheVariants.{ChainId, InsertionCode, ConformerName, AlternativeLocation, AtomName}
-use Rattle.machine.specs.declared.Refusal.TheVariants.{BadValue, NoCapacity, JoinWithItself, BadModification}
+use Rattle.machine.specs.declared.Refusal.TheVariants.{BadValue, NoCapacity, JoinWithItself}
 use Rattle.machine.specs.declared.Edited as Edited
 use Rattle.machine.specs.declared.NewAtom.{NewAtom}
 use Rattle.machine.specs.declared.PreparedAddition.{PreparedAddition}
@@ -35,7 +35,7 @@ abbrev pub addition : List ℕ → ℕ → Optional → List ℕ → Optional �
 addition chain residue code conformer location name values =
     record { chain = chain; residue = residue; code = code; conformer = conformer; location = location; name = name; values = values }
 
--- "The sixteen edit calls", and those of change requests §6 and §10. A position goes from the model down; texts and flags follow it
+-- "The sixteen edit calls", and change request §6's. A position goes from the model down; texts and flags follow it
 pub data Call : Type 0 where
   AddModel : (serial : ℕ) → Call
   AddAtom : (model : ℕ) → Addition → Call
@@ -54,7 +54,6 @@ pub data Call : Type 0 where
   JoinResidues : (model chain residue : ℕ) → (model' chain' residue' : ℕ) → Call
   JoinConformers : (model chain residue conformer : ℕ) → (model' chain' residue' conformer' : ℕ) → Call
   SetElement : (model chain residue conformer atom : ℕ) → (element : ℕ) → Call
-  SetModification : (model chain residue conformer : ℕ) → (name comment : List ℕ) → Call
 
 -- "Each result carries found", here with the machine afterwards
 pub record Change : Type 0 where
@@ -117,7 +116,7 @@ abbrev pub new_residue : PreparedAddition → Residue
 new_residue p = record { serial = p.residue; code = p.code }
 
 abbrev pub new_conformer : PreparedAddition → Conformer
-new_conformer p = unmodified (record { name = p.conformer; location = p.location })
+new_conformer p = record { name = p.conformer; location = p.location }
 
 -- the values with a stored name
 abbrev pub named_atom : NewAtom → ℕ → Atom
@@ -284,15 +283,6 @@ with_element e a =
 abbrev pub fill_in : ℕ → Atom → Result (Option Atom)
 fill_in e a = need (is_element e) BadValue >> ok (cond (eqb a.element 0) (some (with_element e a)) none)
 
--- change request §10: "sets both as given, neither trimmed nor raised"
-abbrev pub with_modification : List ℕ → List ℕ → Conformer → Conformer
-with_modification name comment c =
-    record { name = c.name; location = c.location; standard = pack name; comment = comment_of (packed_in 8 comment) }
-
--- "A bad name (one over 8 bytes as given is bad) or comment gives 18"
-abbrev pub modify : List ℕ → List ℕ → Conformer → Result (Option Conformer)
-modify name comment c = need (good_standard_name name && good_comment comment) BadModification >> ok (some (with_modification name comment c))
-
 -- ---- one call
 
 -- the machine, in a store of n words
@@ -316,7 +306,6 @@ machine_step n m (JoinChains i c i' c') = with_machine (join_at 1 2 (i ∷ c ∷
 machine_step n m (JoinResidues i c r i' c' r') = with_machine (join_at 2 1 (i ∷ c ∷ r ∷ []) (i' ∷ c' ∷ r' ∷ []) m)
 machine_step n m (JoinConformers i c r f i' c' r' f') = with_machine (join_at 3 0 (i ∷ c ∷ r ∷ f ∷ []) (i' ∷ c' ∷ r' ∷ f' ∷ []) m)
 machine_step n m (SetElement i c r f a e) = with_found (set_at 4 0 (i ∷ c ∷ r ∷ f ∷ a ∷ []) (fill_in e) m)
-machine_step n m (SetModification i c r f name comment) = with_found (set_at 3 1 (i ∷ c ∷ r ∷ f ∷ []) (modify name comment) m)
 
 -- "removed, the atom records before minus those after; an addition gives removed 0", as natural numbers subtract
 abbrev pub answer : Machine → Result Change → List ℕ

@@ -6,13 +6,13 @@ use Rattle.std.specs.Float.{binary64}
 use Rattle.std.specs.Float.Ieee.{of_bits, sub, lt}
 use Rattle.machine.specs.Lists.{bytes, concat_map}
 use Rattle.machine.specs.Answer.{Result, ok, refused, refusal_number}
-use Rattle.machine.specs.Text.{packed, pack, unpacked, without_zeros, text_of, trim_start, trim, chain_id, uppercase_or, atom_name, alternative_location, insertion_code, Optional, matches, matches_optional, stored_by, packed_text, packed_in, text_in, before}
+use Rattle.machine.specs.Text.{packed, pack, unpacked, without_zeros, text_of, trim_start, trim, chain_id, uppercase_or, atom_name, alternative_location, insertion_code, Optional, matches, matches_optional, stored_by, packed_text, before}
 use Rattle.machine.specs.Classes.{class_of_fields, class_of, class_of_value, finite_class}
-use Rattle.machine.specs.Record.{Words, words, fields_of, finite, unmodified, good_values, good_modification, good_fields, good_record, read_out}
+use Rattle.machine.specs.Record.{Words, words, fields_of, finite, good_values, good_fields, good_record, read_out}
 use Rattle.machine.specs.Store.{flat, atom_count, laid, lay_out, in_order, good_layout, sections, group, read_store, open_run}
 use Rattle.machine.specs.Query.{codes, node_of, nodes_of, run, leaves_one, read_tree, tree_value, term_value, window, tables, packed_name}
 use Rattle.machine.specs.Find.{enter, nowhere, numbered, atoms_in, atoms_under, hits_from, find_run, find_from}
-use Rattle.machine.specs.Edit.{addition, Call, AddModel, AddAtom, RemoveChain, RemoveAtom, RemoveChainById, RemoveResidueById, RemoveConformerById, RemoveAtomBySerialNumber, RemoveAtomsBy, RemoveEmpty, JoinModels, JoinResidues, JoinConformers, SetElement, SetModification, branch_at, replace_at, add_model, prepare, upsert, add_prepared, remove_at, remove_first, keep_atoms, remove_atoms_by, non_empty, remove_empty, join_at, set_at, machine_step, step_by, store_step, store_after, store_answers}
+use Rattle.machine.specs.Edit.{addition, Call, AddModel, AddAtom, RemoveChain, RemoveAtom, RemoveChainById, RemoveResidueById, RemoveConformerById, RemoveAtomBySerialNumber, RemoveAtomsBy, RemoveEmpty, JoinModels, JoinResidues, SetElement, branch_at, replace_at, add_model, prepare, upsert, add_prepared, remove_at, remove_first, keep_atoms, remove_atoms_by, non_empty, remove_empty, join_at, set_at, machine_step, step_by, store_step, store_after, store_answers}
 use Rattle.machine.specs.Lookup.{serials, lookup_in, lookup_run}
 use Rattle.machine.specs.Program.{read_input, digits, printed, program_run}
 use Rattle.machine.specs.Cases.{record12, store, six, S, renamed, node, element7, found, absent, present, atom, zeros, atom_record, file, eight_bytes, Case}
@@ -100,28 +100,17 @@ twins first second =
     ∷ first
     ++ (record12 (4 ∷ packed_name "ALA" ∷ []) ∷ second))
 
--- residue 7 and the records below it
-abbrev residue7 : List Words → List ℕ
-residue7 rs = store 97 (record12 (1 ∷ 1 ∷ []) ∷ record12 (2 ∷ packed_name "A" ∷ []) ∷ record12 (3 ∷ 7 ∷ []) ∷ rs)
-
--- with one conformer, at this location, and two atoms
+-- residue 7 with one conformer, at this location, and two atoms
 abbrev one_conformer : ℕ → List ℕ
-one_conformer location = residue7 (record12 (4 ∷ packed_name "ALA" ∷ location ∷ []) ∷ atom_record 1 ∷ atom_record 2 ∷ [])
-
--- a conformer with a standard name and some words of a comment, those after them 0
-abbrev modified : ℕ → List ℕ → Words
-modified standard comment = record12 (4 ∷ packed_name "ALA" ∷ 0 ∷ standard ∷ comment)
-
--- the two modifications of the examples
-abbrev selenium : Words
-selenium = modified (packed_name "MET") (packed_name "Selenium" ∷ packed_name " for S" ∷ [])
-
-abbrev oxidized : Words
-oxidized = modified (packed_name "CYS") (packed_name "oxidized" ∷ [])
-
--- what a layout with such a conformer gives
-abbrev laid_out : List Words → List ℕ
-laid_out fs = concat_map (λ f. refusal_of (read_store (residue7 (f ∷ [])))) fs
+one_conformer location =
+    store 97
+    (record12 (1 ∷ 1 ∷ [])
+    ∷ record12 (2 ∷ packed_name "A" ∷ [])
+    ∷ record12 (3 ∷ 7 ∷ [])
+    ∷ record12 (4 ∷ packed_name "ALA" ∷ location ∷ [])
+    ∷ atom_record 1
+    ∷ atom_record 2
+    ∷ [])
 
 -- two atoms at these locations
 abbrev two_locations : Optional → Optional → List ℕ
@@ -176,7 +165,7 @@ said Undecided = 2
 -- what the two say at a conformer of this name, before an atom of it is known
 abbrev at_conformer : String → List ℕ
 at_conformer name =
-    let v = term_value tables (enter 1 (unmodified (record { name = packed_name name; location = 0 })) nowhere) in
+    let v = term_value tables (enter 1 (record { name = packed_name name; location = 0 }) nowhere) in
     said (tree_value v backbone) ∷ said (tree_value v side_chain) ∷ []
 
 -- ---- names
@@ -352,28 +341,6 @@ examples =
     -- a list of hits then loses the atom, or stays
     ∷ example (found (store_after S (SetElement 0 0 0 0 1 8 ∷ [])) element7) (4 ∷ [])
     ∷ example (found (store_after S (SetElement 0 0 0 0 1 7 ∷ [])) element7) (4 ∷ 5 ∷ [])
-    -- a modification: both texts as given, in the place of both
-    ∷ example (store_after (residue7 (modified 0 [] ∷ [])) (SetModification 0 0 0 0 (bytes " Met") (bytes "Selenium for S ") ∷ [])) (residue7 (modified (packed_name " Met") (packed_name "Selenium" ∷ packed_name " for S " ∷ []) ∷ []))
-    ∷ example (store_after (residue7 (selenium ∷ [])) (SetModification 0 0 0 0 (bytes "CYS") (bytes "oxidized") ∷ [])) (residue7 (oxidized ∷ []))
-    -- a name of a blank, the longest name and comment, and an empty comment are good, where there was one too
-    ∷ example (lines (on_s (SetModification 0 0 0 0 (bytes " ") (replicate 64 126) ∷ SetModification 0 0 0 0 (bytes "ABCDEFGH") [] ∷ []))) (0 ∷ 1 ∷ 0 ∷ 0 ∷ 1 ∷ 0 ∷ [])
-    -- a bad name or comment gives 18, after 5
-    ∷ example (lines (on_s (map (λ name. SetModification 0 0 0 0 name []) ([] ∷ bytes "ABCDEFGH " ∷ (127 ∷ []) ∷ [])))) (18 ∷ 0 ∷ 0 ∷ 18 ∷ 0 ∷ 0 ∷ 18 ∷ 0 ∷ 0 ∷ [])
-    ∷ example (lines (on_s (map (λ comment. SetModification 0 0 0 0 (bytes "MET") comment) (replicate 65 65 ∷ (31 ∷ []) ∷ (65 ∷ 0 ∷ []) ∷ [])))) (18 ∷ 0 ∷ 0 ∷ 18 ∷ 0 ∷ 0 ∷ 18 ∷ 0 ∷ 0 ∷ [])
-    ∷ example (lines (on_s (SetModification 0 0 0 1 [] [] ∷ []))) (5 ∷ 0 ∷ 0 ∷ [])
-    -- the layout takes them as given; a comment without a name breaks it
-    ∷ example (laid_out (modified (packed_name " met") [] ∷ modified (packed_name "ABCDEFGH") (replicate 8 (packed_name "12345678")) ∷ modified 0 (packed_name "Selenium" ∷ []) ∷ [])) (0 ∷ 0 ∷ 2 ∷ [])
-    -- so does a zero byte inside, a byte outside 32 to 126, and a word not 0 after the text's end
-    ∷ example (laid_out (modified (pack (77 ∷ 0 ∷ 84 ∷ [])) [] ∷ modified (pack (127 ∷ [])) [] ∷ [])) (2 ∷ 2 ∷ [])
-    ∷ example (laid_out (map (modified (packed_name "MET")) ((pack (65 ∷ 0 ∷ 65 ∷ []) ∷ []) ∷ (pack (31 ∷ []) ∷ []) ∷ (packed_name "S" ∷ packed_name "e" ∷ []) ∷ (0 ∷ packed_name "S" ∷ []) ∷ []))) (2 ∷ 2 ∷ 2 ∷ 2 ∷ [])
-    -- a join of two conformers keeps the first's and drops the second's
-    ∷ example (store_after (residue7 (selenium ∷ atom_record 1 ∷ oxidized ∷ atom_record 2 ∷ [])) (JoinConformers 0 0 0 0 0 0 0 1 ∷ [])) (residue7 (selenium ∷ atom_record 1 ∷ atom_record 2 ∷ []))
-    ∷ example (store_after (residue7 (modified 0 [] ∷ atom_record 1 ∷ oxidized ∷ atom_record 2 ∷ [])) (JoinConformers 0 0 0 0 0 0 0 1 ∷ [])) (residue7 (modified 0 [] ∷ atom_record 1 ∷ atom_record 2 ∷ []))
-    -- an addition to it carries it, and so does a removal
-    ∷ example (store_after (residue7 (selenium ∷ atom_record 1 ∷ [])) (AddAtom 0 (atom 2 absent absent) ∷ [])) (residue7 (selenium ∷ atom_record 1 ∷ atom_record 2 ∷ []))
-    ∷ example (store_after (residue7 (selenium ∷ atom_record 1 ∷ atom_record 2 ∷ [])) (RemoveAtomBySerialNumber 0 0 0 0 1 ∷ [])) (residue7 (selenium ∷ atom_record 2 ∷ []))
-    -- "no hit changes": Backbone goes by the conformer's own name
-    ∷ example (found (store_after S (SetModification 0 0 0 0 (bytes "HOH") [] ∷ [])) backbone) (found S backbone)
     -- lookup: the first of equal serials, past an empty chain; no going back; the first model alone
     ∷ example (lookup_run serial_store 5 absent) (0 ∷ 1 ∷ 0 ∷ 2 ∷ 3 ∷ 4 ∷ 5 ∷ [])
     ∷ example (lookup_run serial_store 5 (present "B")) (replicate 7 0)
@@ -389,7 +356,7 @@ examples =
     ∷ []
 
 pub shown : map (λ (c : Case). c.given) examples ≡ map (λ (c : Case). c.stated) examples
-unfolding examples serial_store S renamed packed unpacked without_zeros text_of trim_start trim chain_id uppercase_or atom_name matches stored_by packed_text packed_in text_in words fields_of good_values good_modification good_fields good_record read_out flat atom_count laid lay_out in_order good_layout sections group read_store open_run codes node_of nodes_of run leaves_one read_tree tree_value term_value tables window enter atoms_in atoms_under hits_from find_from branch_at replace_at add_model prepare upsert add_prepared remove_at remove_first keep_atoms remove_atoms_by non_empty remove_empty join_at set_at machine_step step_by store_step store_after store_answers numbered serials lookup_in lookup_run read_input digits printed program_run of_bits sub lt class_of_fields class_of class_of_value before
+unfolding examples serial_store S renamed packed unpacked without_zeros text_of trim_start trim chain_id uppercase_or atom_name matches stored_by packed_text words fields_of good_values good_fields good_record read_out flat atom_count laid lay_out in_order good_layout sections group read_store open_run codes node_of nodes_of run leaves_one read_tree tree_value term_value tables window enter atoms_in atoms_under hits_from find_from branch_at replace_at add_model prepare upsert add_prepared remove_at remove_first keep_atoms remove_atoms_by non_empty remove_empty join_at set_at machine_step step_by store_step store_after store_answers numbered serials lookup_in lookup_run read_input digits printed program_run of_bits sub lt class_of_fields class_of class_of_value before
 shown = refl
 
 -- "over 65,536 bytes": the next multiple of 8 is refused

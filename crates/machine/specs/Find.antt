@@ -3,7 +3,7 @@ use Rattle.std.specs.Prelude.{ℕ, zero, suc, ◌+◌, ◌*◌, cond, List, [], 
 use Rattle.std.proofs.Math.Option.{Option, none, some}
 use Rattle.machine.specs.Lists.{filter, nth, concat_map, concat_map_from, and_then}
 use Rattle.machine.specs.Answer.{Result, ok, refused, ◌>>=◌, ◌>>◌, position, found_numbers}
-use Rattle.machine.specs.Record.{Fields, label}
+use Rattle.machine.specs.Record.{Fields}
 use Rattle.machine.specs.Store.{Branch, Machine, flat, read_store}
 use Rattle.machine.specs.Kleene.{is_hit}
 use Rattle.machine.specs.Query.{Place, Names, window, read_tree, tree_value, term_value, tables}
@@ -19,7 +19,7 @@ pub record Site : Type 0 where
 -- a place with the level k known too
 unfoldable pub enter : (k : ℕ) → Fields k → Place → Place
 enter zero a e = record { model = e.model; chain = e.chain; residue = e.residue; conformer = e.conformer; atom = some a }
-enter (suc zero) c e = record { model = e.model; chain = e.chain; residue = e.residue; conformer = some (label c); atom = e.atom }
+enter (suc zero) c e = record { model = e.model; chain = e.chain; residue = e.residue; conformer = some c; atom = e.atom }
 enter (suc (suc zero)) r e = record { model = e.model; chain = e.chain; residue = some r; conformer = e.conformer; atom = e.atom }
 enter (suc (suc (suc zero))) c e = record { model = e.model; chain = some c; residue = e.residue; conformer = e.conformer; atom = e.atom }
 enter (suc (suc (suc (suc zero)))) m e = record { model = some m; chain = e.chain; residue = e.residue; conformer = e.conformer; atom = e.atom }

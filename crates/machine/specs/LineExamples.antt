@@ -5,11 +5,10 @@ use Rattle.std.specs.Float.Ieee.{of_bits, of_fields, odd}
 use Rattle.std.specs.Int.Count.{count_trailing_zeros}
 use Rattle.machine.specs.Lists.{concat_map, filter, bytes}
 use Rattle.machine.specs.Text.{packed, unpacked, without_zeros, text_of}
-use Rattle.machine.specs.Record.{Words, words, fields_of, unmodified, good_fields, good_record}
+use Rattle.machine.specs.Record.{Words, words, fields_of, good_fields, good_record}
 use Rattle.machine.specs.Store.{Machine, in_order, good_layout, sections, group, read_store}
 use Rattle.machine.specs.Query.{packed_name}
 use Rattle.machine.specs.Program.{digits, newline}
-use Rattle.machine.specs.Edit.{with_modification}
 use Rattle.machine.specs.Rounding.{nearest_whole, in_units, rounded}
 use Rattle.machine.specs.Write.{store_text, write_run}
 use Rattle.machine.specs.Lines.{Column, column_text, fitting, line_of, last_digits, pointed, fixed, charge_text, AtomLine, name_columns, place_columns, value_columns, element_columns, atom_columns, model_columns, entry_lines, entry_of, machine_text}
@@ -77,11 +76,11 @@ decimals d = concat_map (λ b. fixed d b ++ bytes " ")
 
 -- ---- models
 
--- a model with an empty residue, an atom under a modified conformer and an empty chain, and a model without chains
+-- a model with an empty residue, an atom and an empty chain, and a model without chains
 abbrev two_models : Machine
 two_models =
     let atom = (named "N" 7).atom in
-    let conformer = with_modification (bytes "GLY") (bytes "a comment") (unmodified (named "N" 7).conformer) in
+    let conformer = (named "N" 7).conformer in
     let chain = (named "N" 7).chain in
     let residue = (named "N" 7).residue in
     (record { serial = 1 }, (chain, (residue, []) ∷ (residue, (conformer, atom ∷ []) ∷ []) ∷ []) ∷ (chain, []) ∷ []) ∷ (record { serial = 9999 }, []) ∷ []
@@ -126,7 +125,7 @@ line_examples =
     ∷ example (written (named "CA" 0)) (line "ATOM      0  CA  ALA A   1       0.000   0.000   0.000  0.00  0.00              ")
     ∷ example (written (named "HG11" 1)) (line "ATOM      0 HG11 ALA A   1       0.000   0.000   0.000  0.00  0.00           H  ")
     ∷ example (written (named "" 118)) (line "ATOM      0      ALA A   1       0.000   0.000   0.000  0.00  0.00          OG  ")
-    -- MODEL and ENDMDL, around a model without atoms too; an empty residue and an empty chain have no line, and a modification no column
+    -- MODEL and ENDMDL, around a model without atoms too; an empty residue and an empty chain have no line
     ∷ example (machine_text two_models)
     (line "MODEL        1                                                                  "
     ++ line "ATOM      0  N   ALA A   1       0.000   0.000   0.000  0.00  0.00           N  "

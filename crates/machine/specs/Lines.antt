@@ -5,7 +5,7 @@ use Rattle.std.specs.Int.{w64}
 use Rattle.std.proofs.Common.{to_z}
 use Rattle.machine.specs.Lists.{all, concat_map, bytes}
 use Rattle.machine.specs.Text.{text_of}
-use Rattle.machine.specs.Record.{Model, Chain, Residue, ConformerLabel, Atom, label}
+use Rattle.machine.specs.Record.{Model, Chain, Residue, Conformer, Atom}
 use Rattle.machine.specs.Store.{Branch, Machine}
 use Rattle.machine.specs.Program.{digit, decimal, newline}
 use Rattle.machine.specs.Rounding.{rounded}
@@ -96,7 +96,7 @@ indent name element = cond (ltb (length (text_of name)) 4 && not (eqb (length (s
 pub record AtomLine : Type 0 where
   pub chain : Chain
   pub residue : Residue
-  pub conformer : ConformerLabel
+  pub conformer : Conformer
   pub atom : Atom
 
 -- columns 1 to 16: the record's name, and the atom's serial number and name
@@ -110,7 +110,7 @@ name_columns a =
 
 -- columns 17 to 30: location, residue name, chain id, residue number and insertion code. "Residue names, numbers and element symbols,
 -- these in capitals, stand at the right of their columns; what is absent is blank."
-unfoldable pub place_columns : Chain → Residue → ConformerLabel → List Column
+unfoldable pub place_columns : Chain → Residue → Conformer → List Column
 place_columns c r f =
     at_left 1 (text_of f.location)
     ∷ at_right 3 (text_of f.name)
@@ -162,7 +162,7 @@ unfoldable pub entry_of : Branch 4 → Entry
 entry_of t =
     record {
       model = t.0;
-      atoms = concat_map (λ c. concat_map (λ r. concat_map (λ f. map (λ a. record { chain = c.0; residue = r.0; conformer = label f.0; atom = a }) f.1) r.1) c.1) t.1;
+      atoms = concat_map (λ c. concat_map (λ r. concat_map (λ f. map (λ a. record { chain = c.0; residue = r.0; conformer = f.0; atom = a }) f.1) r.1) c.1) t.1;
     }
 
 abbrev pub lines_of : List Entry → List (List Column)

@@ -5,7 +5,7 @@ use Rattle.std.specs.Prelude.{ℕ, zero, suc, ◌+◌, ◌-◌, ◌*◌, ◌/◌
 use Rattle.std.proofs.Math.Option.{Option, none, some}
 use Rattle.machine.specs.Lists.{all, any, same, first_where}
 use Rattle.machine.specs.Text.{pack, trim}
-use Rattle.machine.specs.Record.{Model, good_label, good_fields}
+use Rattle.machine.specs.Record.{Model, good_fields}
 use Rattle.machine.specs.Rounding.{nearest_bits}
 use Rattle.machine.specs.Lines.{at_right, column_text, AtomLine, Entry, symbols, writable, text_of_entries}
 
@@ -105,7 +105,7 @@ entries_in t = (part_in (lines_in (length t / 81) t)).1
 
 -- "Identifiers hold their stored form", and the values are good
 unfoldable pub good_line : AtomLine → Bool
-good_line l = good_fields 3 l.chain && (good_fields 2 l.residue && (good_label l.conformer && good_fields 0 l.atom))
+good_line l = good_fields 3 l.chain && (good_fields 2 l.residue && (good_fields 1 l.conformer && good_fields 0 l.atom))
 
 abbrev pub good_entry : Entry → Bool
 good_entry e = all good_line e.atoms

@@ -10,7 +10,7 @@ use Rattle.std.proofs.Common.{to_z}
 use Rattle.machine.specs.Lists.{any, nth, and_then, bytes}
 use Rattle.machine.specs.Answer.{Result, ok, refused, ◌>>=◌, ◌>>◌, need}
 use Rattle.machine.specs.Text.{pack, packed_text}
-use Rattle.machine.specs.Record.{Model, Chain, Residue, ConformerLabel, Atom, is_element, read_out}
+use Rattle.machine.specs.Record.{Model, Chain, Residue, Conformer, Atom, is_element, read_out}
 use Rattle.machine.specs.Kleene.{decided, not_t, apply_t}
 use Rattle.machine.specs.declared.Tri.{Tri}
 use Rattle.machine.specs.declared.Tri.TheVariants.{False, Undecided}
@@ -177,7 +177,7 @@ pub record Place : Type 0 where
   pub model : Option Model
   pub chain : Option Chain
   pub residue : Option Residue
-  pub conformer : Option ConformerLabel
+  pub conformer : Option Conformer
   pub atom : Option Atom
 
 abbrev pub only_if : {A : Type 0} → Bool → Option A → Option A
@@ -236,7 +236,7 @@ abbrev pub member : List ℕ → ℕ → Bool
 member names w = any (eqb w) names
 
 -- "false where the conformer's name isn't among the 31 of `AMINO_ACIDS`"; else, or where the conformer isn't known, the second argument
-abbrev pub among_residues : Names → Option ConformerLabel → Tri → Tri
+abbrev pub among_residues : Names → Option Conformer → Tri → Tri
 among_residues names none t = t
 among_residues names (some c) t = cond (member names.residues c.name) t False
 

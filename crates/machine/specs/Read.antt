@@ -4,7 +4,7 @@ use Rattle.std.proofs.Math.Option.{Option, none, some}
 use Rattle.machine.specs.Lists.{is_empty, all, any}
 use Rattle.machine.specs.Answer.{Result, ok, refused, ◌>>=◌, ◌>>◌, need, if_refused, opened_numbers}
 use Rattle.machine.specs.Text.{Optional, optional_of, text_of}
-use Rattle.machine.specs.Record.{ConformerLabel, Fields, label}
+use Rattle.machine.specs.Record.{Fields}
 use Rattle.machine.specs.Store.{Branch, Machine, good_length, lay_out}
 use Rattle.machine.specs.Edit.{Addition, addition, Call, AddModel, AddAtom, machine_step}
 use Rattle.machine.specs.Lines.{AtomLine, Entry}
@@ -71,17 +71,8 @@ read_run t w =
 
 -- ---- the structures that come back as they were
 
--- the id of a conformer, a residue or a chain, whose fields are of level k + 1
-abbrev pub Id : ℕ → Type 0
-Id zero = ConformerLabel
-Id (suc k) = Fields (suc (suc k))
-
-abbrev pub id_of : (k : ℕ) → Fields (suc k) → Id k
-id_of zero c = label c
-id_of (suc k) f = f
-
--- models are told apart by their place
-abbrev pub same_id : (k : ℕ) → Id k → Id k → Bool
+-- equal ids of two conformers, residues or chains; models are told apart by their place
+abbrev pub same_id : (k : ℕ) → Fields (suc k) → Fields (suc k) → Bool
 same_id zero f g = eqb g.name f.name && eqb g.location f.location
 same_id (suc zero) f g = eqb g.serial f.serial && eqb g.code f.code
 same_id (suc (suc zero)) f g = eqb g.id f.id
@@ -90,7 +81,7 @@ same_id (suc (suc (suc k))) f g = false
 -- "no two siblings have equal ids"
 unfoldable pub distinct : (k : ℕ) → List (Branch (suc k)) → Bool
 distinct k [] = true
-distinct k (t ∷ ts) = not (any (λ u. same_id k (id_of k t.0) (id_of k u.0)) ts) && distinct k ts
+distinct k (t ∷ ts) = not (any (λ u. same_id k t.0 u.0) ts) && distinct k ts
 
 -- "no chain, residue or conformer is empty", in branches of level k and below
 unfoldable pub tidy : (k : ℕ) → List (Branch k) → Bool

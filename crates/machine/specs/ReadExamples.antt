@@ -6,9 +6,9 @@ use Rattle.std.specs.Int.Count.{count_trailing_zeros}
 use Rattle.machine.specs.Lists.{concat_map, bytes}
 use Rattle.machine.specs.Query.{packed_name}
 use Rattle.machine.specs.Text.{packed, unpacked, without_zeros, text_of, trim, trim_start, chain_id, uppercase_or, atom_name, stored_by}
-use Rattle.machine.specs.Record.{words, fields_of, unmodified, good_values, good_fields}
+use Rattle.machine.specs.Record.{words, fields_of, good_values, good_fields}
 use Rattle.machine.specs.Store.{Branch, flat, laid, lay_out}
-use Rattle.machine.specs.Edit.{with_modification, branch_at, replace_at, add_model, prepare, upsert, add_prepared, machine_step}
+use Rattle.machine.specs.Edit.{branch_at, replace_at, add_model, prepare, upsert, add_prepared, machine_step}
 use Rattle.machine.specs.Program.{digits, newline}
 use Rattle.machine.specs.Rounding.{nearest_whole, in_units}
 use Rattle.machine.specs.Lines.{last_digits, pointed, fixed, charge_text, name_columns, place_columns, value_columns, element_columns, atom_columns, model_columns, entry_lines}
@@ -77,7 +77,7 @@ abbrev atoms : List (Branch 0)
 atoms = fields_of 0 [] ∷ []
 
 abbrev conformer : ℕ → List (Branch 0) → Branch 1
-conformer location ts = (unmodified (record { name = 1; location = location }), ts)
+conformer location ts = (record { name = 1; location = location }, ts)
 
 abbrev residue : ℕ → List (Branch 1) → Branch 2
 residue code ts = (record { serial = 1; code = code }, ts)
@@ -162,9 +162,8 @@ read_examples =
     ((chain 1 filled ∷ chain 2 filled ∷ chain 2 filled ∷ [])
     ∷ (chain 1 (filled ++ filled) ∷ [])
     ∷ (chain 1 (residue 0 (conformer 0 atoms ∷ conformer 0 atoms ∷ []) ∷ []) ∷ [])
-    ∷ (chain 1 (residue 0 (conformer 0 atoms ∷ (with_modification (bytes "MET") [] (conformer 0 []).0, atoms) ∷ []) ∷ []) ∷ [])
     ∷ []))
-    (0 ∷ 0 ∷ 0 ∷ 0 ∷ [])
+    (0 ∷ 0 ∷ 0 ∷ [])
     ∷ []
 
 pub reads-shown : map (λ (e : ReadExample). e.given) read_examples ≡ map (λ (e : ReadExample). e.stated) read_examples

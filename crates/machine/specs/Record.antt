@@ -1,12 +1,12 @@
 -- Document 01, "Store": one record. Levels count from the atom, 0, up to the model, 4; a record's kind is 5 less its level.
 -- Numbers signed in the document are held as their bits, and so are floats. Assumes nothing.
-use Rattle.std.specs.Prelude.{ℕ, zero, suc, Bool, true, false, ◌&&◌, cond, List, [], ◌∷◌, get_or, drop, replicate, leb, eqb, Float}
+use Rattle.std.specs.Prelude.{ℕ, zero, suc, Bool, true, false, ◌&&◌, List, [], ◌∷◌, get_or, replicate, leb, eqb, Float}
 use Rattle.std.specs.Float.{nan, inf, fin, binary64}
 use Rattle.std.specs.Float.Ieee.{of_bits}
 use Rattle.std.specs.Int.{w64}
 use Rattle.std.proofs.Common.{to_z}
 use Rattle.machine.specs.Lists.{all, same}
-use Rattle.machine.specs.Text.{chain_id, insertion_code, conformer_name, alternative_location, atom_name, plain, stored_by, absent_or, packed_text, text_in}
+use Rattle.machine.specs.Text.{chain_id, insertion_code, conformer_name, alternative_location, atom_name, stored_by, absent_or}
 use Rattle.machine.specs.declared.AtomRec.{AtomRec}
 
 pub record Model : Type 0 where
@@ -19,28 +19,9 @@ pub record Residue : Type 0 where
   pub serial : ℕ
   pub code : ℕ
 
--- pdbtbx's `Conformer::id`, the name and the alternative location: all that a query, an addition and a PDB line see of a conformer
-pub record ConformerLabel : Type 0 where
-  pub name : ℕ
-  pub location : ℕ
-
--- the eight words of a comment
-pub record Comment : Type 0 where
-  pub one : ℕ
-  pub two : ℕ
-  pub three : ℕ
-  pub four : ℕ
-  pub five : ℕ
-  pub six : ℕ
-  pub seven : ℕ
-  pub eight : ℕ
-
--- change request §10: "Conformer records get it: word 3 the standard name", 0 for none, "words 4 to 11 a comment"
 pub record Conformer : Type 0 where
   pub name : ℕ
   pub location : ℕ
-  pub standard : ℕ
-  pub comment : Comment
 
 pub record Atom : Type 0 where
   pub serial : ℕ
@@ -53,29 +34,6 @@ pub record Atom : Type 0 where
   pub element : ℕ
   pub charge : ℕ
   pub hetero : ℕ
-
-abbrev pub comment_words : Comment → List ℕ
-comment_words c = c.one ∷ c.two ∷ c.three ∷ c.four ∷ c.five ∷ c.six ∷ c.seven ∷ c.eight ∷ []
-
-abbrev pub comment_of : List ℕ → Comment
-comment_of ws =
-    record {
-      one = get_or ws 0 0;
-      two = get_or ws 1 0;
-      three = get_or ws 2 0;
-      four = get_or ws 3 0;
-      five = get_or ws 4 0;
-      six = get_or ws 5 0;
-      seven = get_or ws 6 0;
-      eight = get_or ws 7 0;
-    }
-
-abbrev pub label : Conformer → ConformerLabel
-label c = record { name = c.name; location = c.location }
-
--- a conformer that isn't modified
-abbrev pub unmodified : ConformerLabel → Conformer
-unmodified f = record { name = f.name; location = f.location; standard = 0; comment = comment_of [] }
 
 -- what a record of each level says; there is no level above 4
 abbrev pub Fields : ℕ → Type 0
@@ -93,7 +51,7 @@ Words = List ℕ
 unfoldable pub words : (k : ℕ) → Fields k → Words
 words zero a =
     5 ∷ a.serial ∷ a.name ∷ a.x ∷ a.y ∷ a.z ∷ a.occupancy ∷ a.b_factor ∷ a.element ∷ a.charge ∷ a.hetero ∷ 0 ∷ []
-words (suc zero) c = 4 ∷ c.name ∷ c.location ∷ c.standard ∷ comment_words c.comment
+words (suc zero) c = 4 ∷ c.name ∷ c.location ∷ replicate 9 0
 words (suc (suc zero)) r = 3 ∷ r.serial ∷ r.code ∷ replicate 9 0
 words (suc (suc (suc zero))) c = 2 ∷ c.id ∷ replicate 10 0
 words (suc (suc (suc (suc zero)))) m = 1 ∷ m.serial ∷ replicate 10 0
@@ -117,7 +75,7 @@ fields_of zero r =
       charge = get_or r 9 0;
       hetero = get_or r 10 0;
     }
-fields_of (suc zero) r = record { name = get_or r 1 0; location = get_or r 2 0; standard = get_or r 3 0; comment = comment_of (drop 4 r) }
+fields_of (suc zero) r = record { name = get_or r 1 0; location = get_or r 2 0 }
 fields_of (suc (suc zero)) r = record { serial = get_or r 1 0; code = get_or r 2 0 }
 fields_of (suc (suc (suc zero))) r = record { id = get_or r 1 0 }
 fields_of (suc (suc (suc (suc zero)))) r = record { serial = get_or r 1 0 }
@@ -143,18 +101,10 @@ unfoldable pub good_values : Atom → Bool
 good_values a =
     all finite (a.x ∷ a.y ∷ a.z ∷ a.occupancy ∷ a.b_factor ∷ []) && leb a.element 118 && leb a.hetero 1
 
-abbrev pub good_label : ConformerLabel → Bool
-good_label f = stored_by conformer_name f.name && absent_or alternative_location f.location
-
--- "neither trimmed nor raised, as in the crate, and the layout takes them so"; "a comment without one breaks the layout". After the end of a text there
--- are zeros alone, since a zero byte isn't 32 to 126
-unfoldable pub good_modification : ℕ → List ℕ → Bool
-good_modification standard comment = cond (eqb standard 0) (all (eqb 0) comment) (packed_text standard && all plain (text_in comment))
-
--- a record's identifiers are in stored form, a conformer's modification and an atom's values are good
+-- a record's identifiers are in stored form, and an atom's values are good
 unfoldable pub good_fields : (k : ℕ) → Fields k → Bool
 good_fields zero a = stored_by atom_name a.name && good_values a
-good_fields (suc zero) c = good_label (label c) && good_modification c.standard (comment_words c.comment)
+good_fields (suc zero) c = stored_by conformer_name c.name && absent_or alternative_location c.location
 good_fields (suc (suc zero)) r = absent_or insertion_code r.code
 good_fields (suc (suc (suc zero))) c = stored_by chain_id c.id
 good_fields (suc (suc (suc (suc zero)))) m = true

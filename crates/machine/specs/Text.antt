@@ -1,6 +1,6 @@
 -- Document 01, "Identifiers". A text is its list of bytes. Assumes nothing.
-use Rattle.std.specs.Prelude.{ℕ, zero, suc, ◌+◌, ◌-◌, ◌*◌, ◌/◌, ◌%◌, ◌^◌, Bool, true, false, not, ◌&&◌, ◌||◌, cond, List, [], ◌∷◌, map, reverse, length, drop, leb, ltb, eqb}
-use Rattle.machine.specs.Lists.{is_empty, all, concat_map, same}
+use Rattle.std.specs.Prelude.{ℕ, zero, suc, ◌+◌, ◌-◌, ◌*◌, ◌/◌, ◌%◌, ◌^◌, Bool, true, false, not, ◌&&◌, ◌||◌, cond, List, [], ◌∷◌, map, reverse, length, leb, ltb, eqb}
+use Rattle.machine.specs.Lists.{is_empty, all, same}
 use Rattle.machine.specs.declared.Prepared.{Prepared}
 use Rattle.machine.specs.declared.Prepared.TheVariants.{Stored, Absent, Bad}
 
@@ -31,15 +31,6 @@ without_zeros (b ∷ bs) = before_zeros b (without_zeros bs)
 -- the text that a packed word stands for; 0 stands for the empty one
 unfoldable pub text_of : ℕ → List ℕ
 text_of w = without_zeros (unpacked 8 w)
-
--- change request §10, a longer text in n words: "eight to a word from the highest byte down, zero-padded"
-unfoldable pub packed_in : ℕ → List ℕ → List ℕ
-packed_in zero t = []
-packed_in (suc n) t = pack t ∷ packed_in n (drop 8 t)
-
--- the text that such words stand for
-unfoldable pub text_in : List ℕ → List ℕ
-text_in ws = without_zeros (concat_map (unpacked 8) ws)
 
 -- "`str` order": byte by byte, a prefix first. That "u64 order is `str` order" is a law (`laws`, Packing)
 unfoldable pub before : List ℕ → List ℕ → Bool
@@ -94,16 +85,6 @@ alternative_location t = uppercase_or t Absent
 -- "Atom name: trimmed, then checked; may be empty; a..z raised."
 unfoldable pub atom_name : List ℕ → Prepared
 atom_name t = cond (all plain (trim t)) (fit (map to_upper (trim t))) Bad
-
--- ---- change request §10: a modification's texts, "neither trimmed nor raised"
-
--- "An empty standard name is refused here, since 0 means none"; "one over 8 bytes as given is bad"
-abbrev pub good_standard_name : List ℕ → Bool
-good_standard_name t = all plain t && (not (is_empty t) && leb (length t) 8)
-
--- "a comment of up to 64 bytes 32 to 126"
-abbrev pub good_comment : List ℕ → Bool
-good_comment t = all plain t && leb (length t) 64
 
 -- ---- optional arguments
 

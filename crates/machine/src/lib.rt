@@ -86,11 +86,6 @@ impl Record {
 
     pub const LOCATION: usize = 2;
 
-    pub const STANDARD_NAME: usize = 3;
-
-    // The first of a comment's eight words.
-    pub const COMMENT: usize = 4;
-
     pub const ATOM_NAME: usize = 2;
 
     pub const X: usize = 3;
@@ -200,7 +195,6 @@ pub enum Refusal {
     BadConformer,
     BadAtomName,
     BadText,
-    BadModification,
     BadList,
     ShortAnswers,
 }

@@ -10,10 +10,10 @@ use Rattle.machine.specs.Store.{Branch, Machine}
 use Rattle.machine.specs.Kleene.{is_true}
 use Rattle.machine.specs.Query.{read_tree, tree_value, term_value, tables}
 use Rattle.machine.specs.Find.{enter, nowhere}
-use Rattle.machine.specs.Edit.{Call, AddModel, AddAtom, RemoveChain, RemoveResidue, RemoveConformer, RemoveAtom, RemoveChainById, RemoveResidueById, RemoveConformerById, RemoveAtomBySerialNumber, RemoveAtomsBy, RemoveEmpty, JoinModels, JoinChains, JoinResidues, JoinConformers, SetElement, SetModification, Change, up, branch_at, replace_at, root, remove_first, prepare, new_atom, into_chains, set_at, fill_in, modify, machine_step}
+use Rattle.machine.specs.Edit.{Call, AddModel, AddAtom, RemoveChain, RemoveResidue, RemoveConformer, RemoveAtom, RemoveChainById, RemoveResidueById, RemoveConformerById, RemoveAtomBySerialNumber, RemoveAtomsBy, RemoveEmpty, JoinModels, JoinChains, JoinResidues, JoinConformers, SetElement, Change, up, branch_at, replace_at, root, remove_first, prepare, new_atom, into_chains, set_at, fill_in, machine_step}
 use Rattle.machine.specs.Edit as Plain
 use Rattle.machine.specs.declared.Refusal.{Refusal}
-use Rattle.machine.specs.declared.Refusal.TheVariants.{BadValue, JoinWithItself, BadModification}
+use Rattle.machine.specs.declared.Refusal.TheVariants.{BadValue, JoinWithItself}
 use Rattle.machine.specs.declared.Name.TheVariants.{InsertionCode, AlternativeLocation}
 use Rattle.laws.specs.Lists.{and_both, All, All-of, All-map, and-then}
 use Rattle.laws.specs.Good.{good_branch}
@@ -22,13 +22,13 @@ use Rattle.pdbtbx.specs.Std.{Answer}
 use Rattle.pdbtbx.specs.Structs.{Struct, PDB}
 use Rattle.pdbtbx.specs.Words.{says_of, struct_of, structs_of, pdb_of}
 use Rattle.pdbtbx.specs.Edits.{add_atom, add_model, at_position, remove_at, remove_by_id, remove_atoms_by, remove_empty, join, join_at}
-use Rattle.pdbtbx.specs.Calls.{option_of, search_for, chosen, same_chain, same_residue, same_conformer, same_atom, fill_element, modify_conformer, edit}
+use Rattle.pdbtbx.specs.Calls.{option_of, search_for, chosen, same_chain, same_residue, same_conformer, same_atom, fill_element, edit}
 use Rattle.pdbtbx.specs.Demand.{Flagged, InDomain}
 use Rattle.pdbtbx.proofs.Trees.{reads}
 use Rattle.pdbtbx.proofs.Vecs.{at_map}
 use Rattle.pdbtbx.proofs.Additions.{words, atom, atom-new, into-model, on_model}
 use Rattle.pdbtbx.proofs.Removals.{at_position_lem, remove-at, remove-by-id, struct-at, join-square, remove-empty, remove-atoms-by}
-use Rattle.pdbtbx.proofs.Setters.{with_new, fill-element, good_texts, good-lengths, modified, modify-conformer}
+use Rattle.pdbtbx.proofs.Setters.{fill-element}
 use Rattle.pdbtbx.proofs.Equal.{agree-chain, agree-residue, agree-conformer, agree-atom, chosen-value}
 use Rattle.pdbtbx.proofs.Accepted.{bind_ok, fine}
 
@@ -245,10 +245,3 @@ module _ (n : ℕ) (m : Machine) (good : all (good_branch 4) m ≡ true) where
       let s = sets 4 0 pos (fill_in e) m _ (bind_ok (set_at 4 0 pos (fill_in e) m) _ ch h).1 in
       let d = is-element e s.0 s.2 s.3 in
       by-position (SetElement i c r f a e) d (_, at_position_lem 0 (fill_element e) s.0 _ _ (fill-element e d.0 s.0) 4 pos m s.1)
-  no-panic (SetModification i c r f name comment) ch h =
-      let pos = i ∷ c ∷ r ∷ f ∷ [] in
-      let s = sets 3 1 pos (modify name comment) m _ (bind_ok (set_at 3 1 pos (modify name comment) m) _ ch h).1 in
-      let n = then_ok (need (good_texts name comment) BadModification) _ s.2 s.3 in
-      let g = need-ok (good_texts name comment) _ n.0 n.1 in
-      let t' = with_new 1 (modified name comment s.0.0) s.0 in
-      by-position (SetModification i c r f name comment) (good-lengths name comment g) (_, at_position_lem 1 (modify_conformer name comment) s.0 t' _ (modify-conformer name comment g s.0) 3 pos m s.1)

@@ -6,12 +6,12 @@ use mathlib.Core.Option.{Option, none, some, none-ne-some, some-injective}
 use Rattle.machine.specs.Lists.{is_some, all, same}
 use Rattle.machine.specs.Answer.{Result, ok, ◌>>◌, need, bad_name}
 use Rattle.machine.specs.Text.{Optional, text_of, trim, trim_start, unpacked, without_zeros, chain_id, uppercase_or, conformer_name, stored_by, absent_or, alternative_location, matches, matches_optional}
-use Rattle.machine.specs.Record.{Fields, label, good_label, good_fields}
+use Rattle.machine.specs.Record.{Fields, good_fields}
 use Rattle.machine.specs.Store.{Branch, Machine, records, capacity}
 use Rattle.machine.specs.Kleene.{is_true}
 use Rattle.machine.specs.Query.{tree_value, term_value, tables}
 use Rattle.machine.specs.Find.{enter, nowhere}
-use Rattle.machine.specs.Edit.{Call, AddModel, AddAtom, RemoveChain, RemoveResidue, RemoveConformer, RemoveAtom, RemoveChainById, RemoveResidueById, RemoveConformerById, RemoveAtomBySerialNumber, RemoveAtomsBy, RemoveEmpty, JoinModels, JoinChains, JoinResidues, JoinConformers, SetElement, SetModification, up, branch_at, replace_at, remove_first, with_children, root, keep_atoms, non_empty, set_at, fill_in, modify, machine_step}
+use Rattle.machine.specs.Edit.{Call, AddModel, AddAtom, RemoveChain, RemoveResidue, RemoveConformer, RemoveAtom, RemoveChainById, RemoveResidueById, RemoveConformerById, RemoveAtomBySerialNumber, RemoveAtomsBy, RemoveEmpty, JoinModels, JoinChains, JoinResidues, JoinConformers, SetElement, up, branch_at, replace_at, remove_first, with_children, root, keep_atoms, non_empty, set_at, fill_in, machine_step}
 use Rattle.machine.specs.Edit as Plain
 use Rattle.machine.specs.declared.Refusal.{Refusal}
 use Rattle.machine.specs.declared.Refusal.TheVariants.{NoCapacity}
@@ -26,14 +26,14 @@ use Rattle.pdbtbx.specs.Words.{string, says_of, struct_of, structs_of, pdb_of}
 use Rattle.pdbtbx.specs.Search.{is_known, complete, add_info}
 use Rattle.pdbtbx.specs.Matches.{matches_at}
 use Rattle.pdbtbx.specs.Edits.{add_model, at_position, remove_at, remove_by_id, remove_atoms_by, remove_empty, join_at}
-use Rattle.pdbtbx.specs.Calls.{option_of, search_for, chosen, same_chain, same_residue, same_conformer, same_atom, fill_element, modify_conformer, edit}
+use Rattle.pdbtbx.specs.Calls.{option_of, search_for, chosen, same_chain, same_residue, same_conformer, same_atom, fill_element, edit}
 use Rattle.pdbtbx.specs.Demand.{Reads, Flagged, InDomain, bit}
 use Rattle.pdbtbx.proofs.Values.{value_same, over-open, untold, add-value, add-complete}
 use Rattle.pdbtbx.proofs.Hits.{told_at, search-value}
 use Rattle.pdbtbx.proofs.Names.{matches-given, both}
 use Rattle.pdbtbx.proofs.Additions.{add-atom}
 use Rattle.pdbtbx.proofs.Removals.{at_position_lem, no-position, remove-at, remove-nowhere, index, without_one, remove-by-id, without-found, join-at, remove-empty, remove-atoms-by}
-use Rattle.pdbtbx.proofs.Setters.{with_new, refielded-found, filled_in, fill-in, fill-element, modified, modify-good, modify-conformer, taken-good}
+use Rattle.pdbtbx.proofs.Setters.{with_new, refielded-found, filled_in, fill-in, fill-element}
 
 -- the machine's step, in a store of n words, gives the crate's answer and what stands for the crate's structure, unless it has no room for it
 pub record Same (n : ℕ) (m : Machine) (c : Call) (r : Bool × PDB) : Type 0 where
@@ -102,9 +102,7 @@ filled-conformer c h = go (eqb c.name 0) refl
   where
     go : (b : Bool) → eqb c.name 0 ≡ b → b ≡ false
     go false e = refl
-    go true e =
-        let g = (and_both (good_label (label c)) _ h).0 in
-        absurd (false≢true (ap (stored_by conformer_name) (sym (eqb-true c.name 0 e)) ∙ (and_both (stored_by conformer_name c.name) (absent_or alternative_location c.location) g).0))
+    go true e = absurd (false≢true (ap (stored_by conformer_name) (sym (eqb-true c.name 0 e)) ∙ (and_both (stored_by conformer_name c.name) (absent_or alternative_location c.location) h).0))
 
 -- a text as given beside a stored one that isn't empty
 text-match : (w : ℕ) → eqb w 0 ≡ false → (t : Text) → same (string w) t ≡ matches t w
@@ -242,6 +240,3 @@ module _ (n : ℕ) (m : Machine) (good : all (good_branch 4) m ≡ true) where
       done (JoinConformers i c y f i' c' y' f') r (replace_at 3 1 (i' ∷ c' ∷ y' ∷ f' ∷ []) [] (with_children 3 0 (i ∷ c ∷ y ∷ f ∷ []) x.first (x.first.1 ++ x.second.1) m)) x.held (rw (x.at_first, x.at_second, d))
   same_step (SetElement i c y f a e) d r h =
       found _ r _ refl (set_there 4 0 (i ∷ c ∷ y ∷ f ∷ a ∷ []) m (fill_in e) (filled_in e) (fill-in e d.0 d.1) (fill_element e) (fill-element e d.0) r h)
-  same_step (SetModification i c y f name comment) d r h =
-      let g = taken-good name comment d (i ∷ c ∷ y ∷ f ∷ []) (pdb_of m) r h in
-      found _ r _ refl (set_there 3 1 (i ∷ c ∷ y ∷ f ∷ []) m (modify name comment) (modified name comment) (modify-good name comment g) (modify_conformer name comment) (modify-conformer name comment g) r h)

@@ -7,8 +7,8 @@ use mathlib.Core.Option
 use mathlib.Core.Option.{Option, none, some}
 use lib.Ieee.{of_bits, sub, lt}
 use Rattle.machine.specs.Answer.{Result, ok, refused}
-use Rattle.machine.specs.Text.{packed, unpacked, without_zeros, text_of, trim_start, trim, chain_id, uppercase_or, atom_name, stored_by, packed_text, text_in}
-use Rattle.machine.specs.Record.{words, fields_of, good_values, good_modification, good_fields, good_record}
+use Rattle.machine.specs.Text.{packed, unpacked, without_zeros, text_of, trim_start, trim, chain_id, uppercase_or, atom_name, stored_by, packed_text}
+use Rattle.machine.specs.Record.{words, fields_of, good_values, good_fields, good_record}
 use Rattle.machine.specs.Store.{Machine, flat, laid, lay_out, in_order, good_layout, sections, group, read_store}
 use Rattle.machine.specs.Query.{packed_name, codes, node_of, nodes_of, run, leaves_one, read_tree}
 use Rattle.machine.specs.Find.{hit_words}
@@ -53,5 +53,5 @@ pub worked : found S element7 ∷ found S not_element7 ∷ found S (node 14 (pac
     ∷ found_from S (0 ∷ 0 ∷ []) (node 3 (packed_name "B") 0) ∷ found_from S (0 ∷ []) (node 3 (packed_name "B") 0) ∷ found_from renamed (0 ∷ 0 ∷ 0 ∷ 0 ∷ []) (node 20 0 0) ∷ found_from S (0 ∷ 1 ∷ []) element7 ∷ atoms_for (soaked "GLY") (search_of (node 20 0 0)) ∷ found (soaked "GLY") (node 20 0 0) ∷ []
     ≡ some (4 ∷ 5 ∷ []) ∷ some (5 ∷ []) ∷ some (4 ∷ []) ∷ some (5 ∷ []) ∷ some (4 ∷ []) ∷ some (5 ∷ []) ∷ some [] ∷ some [] ∷ some (4 ∷ []) ∷ some [] ∷ some [] ∷ some (store 121 one_residue)
     ∷ some (0 ∷ 1 ∷ 2 ∷ 3 ∷ 4 ∷ 0 ∷ 1 ∷ 2 ∷ 3 ∷ 5 ∷ []) ∷ some [] ∷ some (0 ∷ 1 ∷ 2 ∷ 3 ∷ 4 ∷ []) ∷ none ∷ some (4 ∷ 6 ∷ []) ∷ some (4 ∷ []) ∷ []
-unfolding S renamed with_bfactor packed unpacked without_zeros text_of trim_start trim chain_id uppercase_or atom_name stored_by packed_text text_in words fields_of good_values good_modification good_fields good_record flat laid lay_out in_order good_layout sections group read_store codes node_of nodes_of run leaves_one read_tree of_bits sub lt abs within_epsilon at on_current prepare_identifier prepare_identifier_uppercase says_of struct_of fields_from branch_from complete simplify add_info AMINO-ACIDS BACKBONE-NAMES optional_matches matches_at find find_under count_of item atom_new conformer_new residue_new chain_new residue_add_atom chain_add_atom model_add_atom add_atom add_model push build search_of given edit edits xor
+unfolding S renamed with_bfactor packed unpacked without_zeros text_of trim_start trim chain_id uppercase_or atom_name stored_by packed_text words fields_of good_values good_fields good_record flat laid lay_out in_order good_layout sections group read_store codes node_of nodes_of run leaves_one read_tree of_bits sub lt abs within_epsilon at on_current prepare_identifier prepare_identifier_uppercase says_of struct_of fields_from branch_from complete simplify add_info AMINO-ACIDS BACKBONE-NAMES optional_matches matches_at find find_under count_of item atom_new conformer_new residue_new chain_new residue_add_atom chain_add_atom model_add_atom add_atom add_model push build search_of given edit edits xor
 worked = refl

@@ -5,7 +5,7 @@ use mathlib.Core.List.{map-map, map-append}
 use mathlib.Core.Option
 use mathlib.Core.Option.{Option, none, some}
 use Rattle.machine.specs.Lists.{or_else, and_then, keep, filter, sum, concat_map_from}
-use Rattle.machine.specs.Record.{Fields, Conformer, ConformerLabel, Atom, label, unmodified, read_out}
+use Rattle.machine.specs.Record.{Fields, Conformer, Atom, read_out}
 use Rattle.machine.specs.Store.{Branch, flat}
 use Rattle.machine.specs.Kleene.{decided, not_t, and_t, is_hit}
 use Rattle.machine.specs.Query.{Place, window, tree_value, same_z, close, drop_sign, known, element_is, among_residues, member, tables, term_value}
@@ -43,7 +43,7 @@ abbrev by_residue : Place → Term → Option Bool
 by_residue e t = and_then e.residue (λ r. (optional_matches t).residue (says_of 2 r))
 
 abbrev by_conformer : Place → Term → Option Bool
-by_conformer e t = and_then e.conformer (λ c. (optional_matches t).conformer (says_of 1 (unmodified c)))
+by_conformer e t = and_then e.conformer (λ c. (optional_matches t).conformer (says_of 1 c))
 
 abbrev by_atom : Place → Term → Option Bool
 by_atom e t = and_then e.atom (λ a. (optional_matches t).atom (says_of 0 a))
@@ -73,7 +73,7 @@ element-then n (some a) = go (eqb a.element 0)
     go false = refl
 
 -- a conformer that isn't an amino acid is told first
-side_then : (o : Option ConformerLabel) (p : Option Atom) (amino : ConformerLabel → Bool) (f g : Atom → Bool) → ((c : ConformerLabel) → amino c ≡ member tables.residues c.name) → ((a : Atom) → f a ≡ g a)
+side_then : (o : Option Conformer) (p : Option Atom) (amino : Conformer → Bool) (f g : Atom → Bool) → ((c : Conformer) → amino c ≡ member tables.residues c.name) → ((a : Atom) → f a ≡ g a)
     → to_tri (or_else (and_then o (λ c. cond (not (amino c)) (some false) none)) (and_then p (λ a. some (f a)))) ≡ among_residues tables o (known p g)
 side_then none p amino f g h k = known-then p f g k
 side_then (some c) p amino f g h k = rw (← h c) (go (amino c))
@@ -157,39 +157,10 @@ after-four none (some p) c d x = refl
 after-four none none (some p) d x = refl
 after-four none none none d x = ap (λ (o : Option Bool). or_else o x) (else-none d)
 
--- a modification isn't seen: a term asks a conformer for its name and its location alone
-unseen : (t : Term) (c : Conformer) → (optional_matches t).conformer (says_of 1 c) ≡ (optional_matches t).conformer (says_of 1 (unmodified (label c)))
-unfolding optional_matches says_of
-unseen (ModelSerialNumber n) c = refl
-unseen (ModelSerialNumberRange a b) c = refl
-unseen (ChainId n) c = refl
-unseen (ChainIdRange a b) c = refl
-unseen (ResidueSerialNumber n) c = refl
-unseen (ResidueSerialNumberRange a b) c = refl
-unseen (ResidueInsertionCode n) c = refl
-unseen (ResidueId a b) c = refl
-unseen (ConformerName n) c = refl
-unseen (ConformerAlternativeLocation n) c = refl
-unseen (ConformerId a b) c = refl
-unseen (AtomSerialNumber n) c = refl
-unseen (AtomSerialNumberRange a b) c = refl
-unseen (AtomName n) c = refl
-unseen (Element n) c = refl
-unseen (BFactor x) c = refl
-unseen (BFactorRange a b) c = refl
-unseen (Occupancy x) c = refl
-unseen (OccupancyRange a b) c = refl
-unseen Backbone c = refl
-unseen SideChain c = refl
-unseen Hetero c = refl
-
 told-enter : (k : ℕ) → k ≤ 4 → (f : Fields k) (e : Place) → Above k e → (t : Term) → or_else (told_at e t) (matches_at k (says_of k f) t) ≡ told_at (enter k f e) t
 unfolding told_at matches_at enter window
 told-enter zero l f e w t = subst (λ (x : Place). or_else (told_at x t) (matches_at 0 (says_of 0 f) t) ≡ told_at (enter 0 f x) t) w (after-four (by_model e t) (by_chain e t) (by_residue e t) (by_conformer e t) ((optional_matches t).atom (says_of 0 f)))
-told-enter (suc zero) l f e w t =
-    let here = (optional_matches t).conformer (says_of 1 (unmodified (label f))) in
-    ap (or_else (told_at e t)) (unseen t f)
-    ∙ subst (λ (x : Place). or_else (told_at x t) here ≡ told_at (enter 1 f x) t) w (after-three (by_model e t) (by_chain e t) (by_residue e t) here)
+told-enter (suc zero) l f e w t = subst (λ (x : Place). or_else (told_at x t) (matches_at 1 (says_of 1 f) t) ≡ told_at (enter 1 f x) t) w (after-three (by_model e t) (by_chain e t) (by_residue e t) ((optional_matches t).conformer (says_of 1 f)))
 told-enter (suc (suc zero)) l f e w t = subst (λ (x : Place). or_else (told_at x t) (matches_at 2 (says_of 2 f) t) ≡ told_at (enter 2 f x) t) w (after_two (by_model e t) (by_chain e t) ((optional_matches t).residue (says_of 2 f)))
 told-enter (suc (suc (suc zero))) l f e w t = subst (λ (x : Place). or_else (told_at x t) (matches_at 3 (says_of 3 f) t) ≡ told_at (enter 3 f x) t) w (after_one (by_model e t) ((optional_matches t).chain (says_of 3 f)))
 told-enter (suc (suc (suc (suc zero)))) l f e w t = subst (λ (x : Place). or_else (told_at x t) (matches_at 4 (says_of 4 f) t) ≡ told_at (enter 4 f x) t) w (sym (else-none ((optional_matches t).model (says_of 4 f))))

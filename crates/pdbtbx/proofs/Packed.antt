@@ -1,17 +1,14 @@
 -- A machine that a store can hold is what its structure packs to. Assumes nothing.
-use Rattle.std.proofs.Common.{◌≡◌, ℕ, zero, suc, ◌≤◌, Bool, true, false, cond, ◌&&◌, eqb, leb, List, [], ◌∷◌, map, length, replicate, sym, refl, ap, ◌∙◌, ap₂, arith, eqb-true, leb-true}
-use mathlib.Core.Option
-use mathlib.Core.Option.{Option, none, some}
+use Rattle.std.proofs.Common.{◌≡◌, ℕ, zero, suc, ◌≤◌, Bool, true, false, cond, ◌&&◌, eqb, leb, List, [], ◌∷◌, map, sym, refl, ap₂, arith, eqb-true, leb-true}
+use mathlib.Core.Option.{none, some}
 use Rattle.machine.specs.Lists.{all}
-use Rattle.machine.specs.Text.{text_of, plain, text_in, stored_by, packed_text, atom_name}
-use Rattle.machine.specs.Record.{Fields, Comment, Conformer, label, comment_words, comment_of, finite, good_values, good_label, good_modification, good_fields}
+use Rattle.machine.specs.Text.{text_of, stored_by, atom_name}
+use Rattle.machine.specs.Record.{Fields, finite, good_values, good_fields}
 use Rattle.machine.specs.Store.{Branch, Machine}
 use Rattle.laws.specs.Lists.{and_both}
 use Rattle.laws.specs.Good.{good_branch}
 use Rattle.laws.specs.Packing.{pack-text_of}
-use Rattle.laws.specs.Comments.{packed_in-text_in}
-use Rattle.pdbtbx.specs.Std.{Text}
-use Rattle.pdbtbx.specs.Words.{option_string, option_modification, option_element, says_of, struct_of, pdb_of, pack_option, standard_word, pack_comment, element_word, fields_from, branch_from, machine_from}
+use Rattle.pdbtbx.specs.Words.{option_string, option_element, says_of, struct_of, pdb_of, pack_option, element_word, fields_from, branch_from, machine_from}
 
 option_back : (w : ℕ) → pack_option (option_string w) ≡ w
 option_back w = go (eqb w 0) refl
@@ -19,30 +16,6 @@ option_back w = go (eqb w 0) refl
     go : (b : Bool) → eqb w 0 ≡ b → pack_option (cond b none (some (text_of w))) ≡ w
     go true e = sym (eqb-true w 0 e)
     go false e = pack-text_of w
-
-standard-back : (w : ℕ) (comment : List ℕ) → standard_word (option_modification w comment) ≡ w
-standard-back w comment = named (option_string w) ∙ option_back w
-  where
-    named : (o : Option Text) → standard_word (Option.map (λ (name : Text). (name, text_in comment)) o) ≡ pack_option o
-    named none = refl
-    named (some t) = refl
-
--- without a name there is no comment
-no-comment : (c : Comment) → all (eqb 0) (comment_words c) ≡ true → comment_of [] ≡ c
-no-comment c h = ap comment_of (zeros (comment_words c) h)
-  where
-    zeros : (ws : List ℕ) → all (eqb 0) ws ≡ true → replicate {A = ℕ} (length ws) 0 ≡ ws
-    zeros [] e = refl
-    zeros (w ∷ ws) e = let p = and_both (eqb 0 w) (all (eqb 0) ws) e in ap₂ ◌∷◌ (eqb-true 0 w p.0) (zeros ws p.1)
-
-comment-back : (w : ℕ) (c : Comment) → good_modification w (comment_words c) ≡ true → pack_comment (option_modification w (comment_words c)) ≡ c
-unfolding good_modification
-comment-back w c g = go (eqb w 0) g
-  where
-    go : (b : Bool) → cond b (all (eqb 0) (comment_words c)) (packed_text w && all plain (text_in (comment_words c))) ≡ true
-        → pack_comment (Option.map (λ (name : Text). (name, text_in (comment_words c))) (cond b none (some (text_of w)))) ≡ c
-    go true h = no-comment c h
-    go false h = ap comment_of (packed_in-text_in (comment_words c))
 
 element-back : (w : ℕ) → element_word (option_element w) ≡ w
 element-back w = go (eqb w 0) refl
@@ -60,10 +33,6 @@ good-hetero : (a : Fields zero) → good_fields zero a ≡ true → a.hetero ≤
 unfolding good_fields good_values
 good-hetero a h = leb-true a.hetero 1 (and_both (all finite (a.x ∷ a.y ∷ a.z ∷ a.occupancy ∷ a.b_factor ∷ []) && leb a.element 118) (leb a.hetero 1) (and_both (stored_by atom_name a.name) (good_values a) h).1).1
 
-good-comment : (c : Conformer) → good_fields 1 c ≡ true → good_modification c.standard (comment_words c.comment) ≡ true
-unfolding good_fields
-good-comment c h = (and_both (good_label (label c)) (good_modification c.standard (comment_words c.comment)) h).1
-
 fields_back : (k : ℕ) → k ≤ 4 → (f : Fields k) → good_fields k f ≡ true → fields_from k (says_of k f) ≡ f
 unfolding fields_from says_of
 fields_back zero l a g =
@@ -80,14 +49,7 @@ fields_back zero l a g =
       charge = a.charge;
       hetero = bit-back a.hetero h i;
     }
-fields_back (suc zero) l c g =
-    let h = good-comment c g in
-    λ i. record {
-      name = pack-text_of c.name i;
-      location = option_back c.location i;
-      standard = standard-back c.standard (comment_words c.comment) i;
-      comment = comment-back c.standard c.comment h i;
-    }
+fields_back (suc zero) l c g = λ i. record { name = pack-text_of c.name i; location = option_back c.location i }
 fields_back (suc (suc zero)) l r g = λ i. record { serial = r.serial; code = option_back r.code i }
 fields_back (suc (suc (suc zero))) l c g = λ i. record { id = pack-text_of c.id i }
 fields_back (suc (suc (suc (suc zero)))) l m g = refl

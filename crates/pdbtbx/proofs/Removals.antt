@@ -1,5 +1,5 @@
 -- The crate's removals and joins are document 01's, at every level. Assumes nothing.
-use Rattle.std.proofs.Common.{◌≡◌, ℕ, zero, suc, ◌≤◌, Bool, true, not, ltb, List, [], ◌∷◌, ◌++◌, map, length, sym, refl, ap, ◌∙◌, ap₂, map-id, arith, lt-ltb}
+use Rattle.std.proofs.Common.{◌≡◌, ℕ, zero, suc, ◌≤◌, Bool, true, false, not, ltb, List, [], ◌∷◌, ◌++◌, map, length, sym, refl, ap, ◌∙◌, ap₂, map-id, arith, lt-ltb}
 use mathlib.Core.Bool.{not-not}
 use mathlib.Core.List.{map-append}
 use mathlib.Core.Option
@@ -15,7 +15,7 @@ use Rattle.pdbtbx.specs.Structs.{Atom, Struct}
 use Rattle.pdbtbx.specs.Words.{says_of, struct_of, structs_of}
 use Rattle.pdbtbx.specs.Edits.{children, at_position, remove_at, remove_index, remove_by_id, remove_atoms_by, remove_empty, join, struct_at, join_at}
 use Rattle.pdbtbx.specs.Demand.{bit}
-use Rattle.pdbtbx.proofs.Vecs.{filter_map, at_map, at_none, at-never, at-panic, first-all, first-within, Within}
+use Rattle.pdbtbx.proofs.Vecs.{filter_map, at_map, at_none, at-panic, first-all, first-within, Within}
 
 -- ---- lists
 
@@ -73,13 +73,6 @@ no-position (suc d) j g (i ∷ is) m e = go (nth i m) refl e (λ u. no-position 
         → at i (λ (x : Struct (suc (up d j))). children x.0 (at_position d j is g x.1)) (structs_of (suc (up d j)) m) ≡ none
     go none n k f = at_none (struct_of (suc (up d j))) _ i m n
     go (some x) n k f = at-panic (struct_of (suc (up d j))) _ i m x n (ap (children (says_of (suc (up d j)) x.0)) (f x.1 k))
-
--- a call that always panics does so at any position
-pub position-never : (d j : ℕ) (g : Struct j → Answer (Struct j)) → ((x : Struct j) → g x ≡ none) → (pos : List ℕ) (ts : List (Struct (up d j))) → at_position d j pos g ts ≡ none
-unfolding at_position
-position-never d j g h [] ts = refl
-position-never zero j g h (i ∷ is) ts = at-never g h i ts
-position-never (suc d) j g h (i ∷ is) ts = at-never _ (λ t. ap (children t.0) (position-never d j g h is t.1)) i ts
 
 -- ---- by position
 

@@ -1,14 +1,14 @@
 -- Words compare as the crate's texts do, and its arms give the terms' values. Assumes nothing.
 use Rattle.std.proofs.Common.{◌≡◌, ℕ, zero, suc, ◌/◌, ◌%◌, ◌^◌, ◌<◌, Bool, true, false, cond, ◌&&◌, ◌||◌, eqb, ltb, leb, List, [], ◌∷◌, map, sym, refl, ap, ◌∙◌, ap₂, mod-lt, div-add-mod', arith, le-ltb, lt-ltb, eq-eqb, ne_eqb, eqb-true, le-leb}
 use Prim.Native.String.{String}
-use mathlib.Core.Bool.{and-false}
+use mathlib.Core.Bool.{and-false, false≢true}
 use mathlib.Core.Option.{none, some}
 use native.Mathlib.Nat.{one-le-pow}
 use borrow.Author.Tests.{eqb-false}
 use Rattle.machine.specs.Lists.{all, same, is_empty, bytes}
 use Rattle.machine.specs.Text.{packed, unpacked, before_zeros, without_zeros, text_of, before}
 use Rattle.machine.specs.Query.{member, packed_name, tables}
-use Rattle.laws.specs.Lists.{and_both, same_true, same_refl, empty-nil}
+use Rattle.laws.specs.Lists.{and_both, same_true, same_refl}
 use Rattle.laws.specs.Packing.{both_ways, text_of-injective, order-digit}
 use Rattle.pdbtbx.specs.Std.{same_option}
 use Rattle.pdbtbx.specs.Words.{string, option_string}
@@ -36,6 +36,10 @@ same-option v w = go (eqb v 0) (eqb w 0) refl refl
     go false false e f = same-string v w
 
 -- ---- in order
+
+empty-nil : (t : List ℕ) → is_empty t ≡ true → t ≡ []
+empty-nil [] h = refl
+empty-nil (x ∷ xs) h = absurd (false≢true h)
 
 zero-first : (y : ℕ) (t : List ℕ) → true ≡ (ltb 0 y || (eqb 0 y && before [] t))
 unfolding before

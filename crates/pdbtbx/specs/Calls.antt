@@ -5,7 +5,7 @@ use Rattle.machine.specs.Lists.{same, and_then}
 use Rattle.machine.specs.Answer.{Result, ok, refused}
 use Rattle.machine.specs.Text.{Optional}
 use Rattle.machine.specs.Query.{read_tree}
-use Rattle.machine.specs.Edit.{Addition, Call, AddModel, AddAtom, RemoveChain, RemoveResidue, RemoveConformer, RemoveAtom, RemoveChainById, RemoveResidueById, RemoveConformerById, RemoveAtomBySerialNumber, RemoveAtomsBy, RemoveEmpty, JoinModels, JoinChains, JoinResidues, JoinConformers, SetElement, SetModification}
+use Rattle.machine.specs.Edit.{Addition, Call, AddModel, AddAtom, RemoveChain, RemoveResidue, RemoveConformer, RemoveAtom, RemoveChainById, RemoveResidueById, RemoveConformerById, RemoveAtomBySerialNumber, RemoveAtomsBy, RemoveEmpty, JoinModels, JoinChains, JoinResidues, JoinConformers, SetElement}
 use Rattle.machine.specs.declared.Term.{Term}
 use Rattle.machine.specs.declared.Term.TheVariants.{Hetero}
 use Rattle.machine.specs.declared.Ops.TheVariants.{And}
@@ -13,11 +13,11 @@ use Rattle.machine.specs.declared.Node.{Node}
 use Rattle.machine.specs.declared.Node.TheVariants as Nodes
 use Rattle.demands.specs.Hetero.{is_side}
 use Rattle.pdbtbx.specs.Std.{Text, same_option, is_none, Answer}
-use Rattle.pdbtbx.specs.Structs.{Conformer, Atom, Struct, PDB, prepare_identifier_uppercase}
+use Rattle.pdbtbx.specs.Structs.{Atom, Struct, PDB, prepare_identifier_uppercase}
 use Rattle.pdbtbx.specs.Words.{option_element}
 use Rattle.pdbtbx.specs.Search.{Search, Operator, Not, Single, Known, is_known, complete, add_info}
 use Rattle.pdbtbx.specs.Matches.{matches_at}
-use Rattle.pdbtbx.specs.Edits.{Arguments, add_atom, add_model, at_position, remove_at, remove_by_id, remove_atoms_by, remove_empty, join_at, set_modification, set_element}
+use Rattle.pdbtbx.specs.Edits.{Arguments, add_atom, add_model, at_position, remove_at, remove_by_id, remove_atoms_by, remove_empty, join_at, set_element}
 
 -- ---- arguments
 
@@ -135,10 +135,6 @@ same_atom serial a = a.serial == serial
 unfoldable pub fill_element : ℕ → Struct 0 → Answer (Struct 0)
 fill_element element atom = cond (is_none atom.element) (some (true, set_element element atom)) (some (false, atom))
 
--- conformer.set_modification((name, comment)).unwrap(), so an Err is a panic
-unfoldable pub modify_conformer : Text → Text → Struct 1 → Answer (Struct 1)
-modify_conformer name comment conformer = map (λ (self : Conformer). (true, (self, conformer.1))) (set_modification (name, comment) conformer.0)
-
 unfoldable pub edit : Call → PDB → Answer PDB
 edit (AddModel serial) pdb = add_model serial pdb
 edit (AddAtom i a) pdb = add_atom i (arguments_of a) pdb
@@ -157,7 +153,6 @@ edit (JoinChains i c i' c') pdb = join_at 1 2 (i ∷ c ∷ []) (i' ∷ c' ∷ []
 edit (JoinResidues i c r i' c' r') pdb = join_at 2 1 (i ∷ c ∷ r ∷ []) (i' ∷ c' ∷ r' ∷ []) pdb
 edit (JoinConformers i c r f i' c' r' f') pdb = join_at 3 0 (i ∷ c ∷ r ∷ f ∷ []) (i' ∷ c' ∷ r' ∷ f' ∷ []) pdb
 edit (SetElement i c r f a e) pdb = at_position 4 0 (i ∷ c ∷ r ∷ f ∷ a ∷ []) (fill_element e) pdb
-edit (SetModification i c r f name comment) pdb = at_position 3 1 (i ∷ c ∷ r ∷ f ∷ []) (modify_conformer name comment) pdb
 
 -- one call after another, none of which panics: what they return, and the structure afterwards
 unfoldable pub edits : List Call → PDB → Option (List Bool × PDB)

@@ -9,7 +9,7 @@ use Rattle.machine.specs.Store.{stored, capacity, lay_out, open_run}
 use Rattle.machine.specs.Kleene.{decided, not_t, apply_t}
 use Rattle.machine.specs.Query.{read_tree, tree_value}
 use Rattle.machine.specs.Find.{find_from}
-use Rattle.machine.specs.Edit.{Addition, Call, AddModel, AddAtom, RemoveChain, RemoveResidue, RemoveConformer, RemoveAtom, RemoveChainById, RemoveResidueById, RemoveConformerById, RemoveAtomBySerialNumber, RemoveAtomsBy, RemoveEmpty, JoinModels, JoinChains, JoinResidues, JoinConformers, SetElement, SetModification, store_step, store_after, store_answers}
+use Rattle.machine.specs.Edit.{Addition, Call, AddModel, AddAtom, RemoveChain, RemoveResidue, RemoveConformer, RemoveAtom, RemoveChainById, RemoveResidueById, RemoveConformerById, RemoveAtomBySerialNumber, RemoveAtomsBy, RemoveEmpty, JoinModels, JoinChains, JoinResidues, JoinConformers, SetElement, store_step, store_after, store_answers}
 use Rattle.machine.specs.Demand.{accepts, Accepted, list}
 use Rattle.machine.specs.declared.Tri.{Tri}
 use Rattle.machine.specs.declared.Term.{Term}
@@ -71,10 +71,6 @@ pub record Domain (a : Addition) : Type 0 where
   pub element : a.values.element ≤ 118
   pub hetero : a.values.hetero ≤ 1
 
--- change request §10's limits on a standard name and a comment as given; the crate also takes an empty name, and longer texts
-abbrev pub Lengths : Text → Text → Type 0
-Lengths name comment = (1 ≤ length name) × (length name ≤ 8) × (length comment ≤ 64)
-
 -- beside "inputs on which the Rust doesn't panic": what Rust's types can say, with short identifiers; Rust can't join a thing with itself
 abbrev pub InDomain : Call → Type 0
 InDomain (AddModel serial) = Unit {0}
@@ -94,7 +90,6 @@ InDomain (JoinChains i c i' c') = same (i ∷ c ∷ []) (i' ∷ c' ∷ []) ≡ f
 InDomain (JoinResidues i c r i' c' r') = same (i ∷ c ∷ r ∷ []) (i' ∷ c' ∷ r' ∷ []) ≡ false
 InDomain (JoinConformers i c r f i' c' r' f') = same (i ∷ c ∷ r ∷ f ∷ []) (i' ∷ c' ∷ r' ∷ f' ∷ []) ≡ false
 InDomain (SetElement i c r f a e) = (1 ≤ e) × (e ≤ 118)
-InDomain (SetModification i c r f name comment) = Lengths name comment
 
 -- ---- what is claimed: w is any words that opening accepts, and calls any list of edits, refused ones included
 

@@ -8,7 +8,7 @@ use Rattle.machine.specs.Text.{trim}
 use Rattle.machine.specs.Record.{finite}
 use Rattle.machine.specs.Edit.{up}
 use Rattle.pdbtbx.specs.Std.{Text, to_uppercase, same_option, Answer, changed, at, remove, position, position_from_back, on_current}
-use Rattle.pdbtbx.specs.Structs.{Conformer, Atom, Struct, PDB, valid_identifier, valid_text, prepare_identifier, prepare_identifier_uppercase}
+use Rattle.pdbtbx.specs.Structs.{Atom, Struct, PDB, valid_identifier, prepare_identifier, prepare_identifier_uppercase}
 
 -- self, whose children a call changed
 abbrev pub children : {S U : Type 0} → S → Answer (List U) → Answer (S × List U)
@@ -53,11 +53,10 @@ atom_new a =
     }))
     none
 
--- Conformer::new: prepare_identifier_uppercase(name).map(|n| { Conformer { name: n, alternative_location: None, modification: None, .. };
+-- Conformer::new: prepare_identifier_uppercase(name).map(|n| { Conformer { name: n, alternative_location: None, .. };
 --   if let Some(al) = alt_loc { res.alternative_location = prepare_identifier_uppercase(al); } .. })
 unfoldable pub conformer_new : Text → Option Text → Option (Struct 1)
-conformer_new name location =
-    Option.map (λ n. (record { name = n; location = and_then location prepare_identifier_uppercase; modification = none }, [])) (prepare_identifier_uppercase name)
+conformer_new name location = Option.map (λ n. (record { name = n; location = and_then location prepare_identifier_uppercase }, [])) (prepare_identifier_uppercase name)
 
 -- Residue::new: if let Some(ic) = insertion_code { if !res.set_insertion_code(ic) { return None; } }, which is
 --   prepare_identifier_uppercase(new_code).map(|c| self.insertion_code = Some(c)).is_some()
@@ -159,15 +158,7 @@ unfoldable pub join_at : (d j : ℕ) → List ℕ → List ℕ → List (Struct 
 join_at d j a b ts =
     and_then (struct_at d (suc j) b ts) (λ other. and_then (at_position d (suc j) a (join j other) ts) (λ r. remove_at d (suc j) b r.1))
 
--- ---- a conformer's and an atom's own fields
-
--- Conformer::set_modification: if !valid_identifier(&new_modification.0) { Err(..) } else if !valid_text(&new_modification.1) { Err(..) }
---   else { self.modification = Some(new_modification); Ok(()) }. none is an Err
-abbrev pub set_modification : Text × Text → Conformer → Option Conformer
-set_modification new self =
-    cond (not (valid_identifier new.0)) none
-    (cond (not (valid_text new.1)) none
-    (some (record { name = self.name; location = self.location; modification = some new })))
+-- ---- an atom's own fields
 
 -- Atom::set_element: self.element = Some(element)
 abbrev pub set_element : ℕ → Atom → Atom

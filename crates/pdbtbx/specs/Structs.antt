@@ -1,5 +1,5 @@
--- pdbtbx 0.12.0, src/structs: the five structs and helper.rs. Left out, as in document 01: `counter`, `atf`, `database_reference`. An `isize`
--- and an `f64` are held as their bits. Assumes nothing.
+-- pdbtbx 0.12.0, src/structs: the five structs and helper.rs. Left out, as in document 01: `counter`, `atf`, `modification`,
+-- `database_reference`. An `isize` and an `f64` are held as their bits. Assumes nothing.
 use Rattle.std.specs.Prelude.{ℕ, zero, suc, Bool, cond, not, ◌&&◌, List, nat_lt}
 use Rattle.std.proofs.Math.Option.{Option, none, some, map}
 use Rattle.machine.specs.Lists.{is_empty, all}
@@ -18,11 +18,9 @@ pub record Residue : Type 0 where
   pub serial : ℕ
   pub code : Option Text
 
--- a `modification` is the standard name and the comment
 pub record Conformer : Type 0 where
   pub name : Text
   pub location : Option Text
-  pub modification : Option (Text × Text)
 
 -- an `Element` is its number, 1 to 118
 pub record Atom : Type 0 where
@@ -61,12 +59,9 @@ PDB = List (Struct 4)
 abbrev pub check_char : ℕ → Bool
 check_char c = nat_lt c 127 && nat_lt 31 c
 
--- text.chars().all(check_char), in both
+-- text.chars().all(check_char)
 abbrev pub valid_identifier : Text → Bool
 valid_identifier t = all check_char t
-
-abbrev pub valid_text : Text → Bool
-valid_text t = all check_char t
 
 -- (valid_identifier(text) && !text.trim().is_empty()).then(|| text.trim().to_string())
 unfoldable pub prepare_identifier : Text → Option Text

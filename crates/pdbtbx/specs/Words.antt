@@ -1,12 +1,11 @@
 -- Document 01's words and the crate's values that they stand for: texts, numbers, and a whole structure, both ways. Assumes nothing.
-use Rattle.std.specs.Prelude.{ℕ, zero, suc, cond, List, [], map, ℤ, ◌==◌, from_bits, Float}
-use Rattle.std.proofs.Math.Option
+use Rattle.std.specs.Prelude.{ℕ, zero, suc, cond, List, map, ℤ, ◌==◌, from_bits, Float}
 use Rattle.std.proofs.Math.Option.{Option, none, some}
 use Rattle.std.specs.Float.{binary64}
 use Rattle.std.specs.Int.{w64}
 use Rattle.std.proofs.Common.{to_z}
-use Rattle.machine.specs.Text.{pack, text_of, packed_in, text_in}
-use Rattle.machine.specs.Record.{Fields, Comment, comment_words, comment_of}
+use Rattle.machine.specs.Text.{pack, text_of}
+use Rattle.machine.specs.Record.{Fields}
 use Rattle.machine.specs.Store.{Branch, Machine}
 use Rattle.pdbtbx.specs.Std.{Text}
 use Rattle.pdbtbx.specs.Structs.{Says, Struct, PDB}
@@ -18,10 +17,6 @@ string w = text_of w
 
 abbrev pub option_string : ℕ → Option Text
 option_string w = cond (w == 0) none (some (text_of w))
-
--- change request §10: a standard name, with the words of a comment
-abbrev pub option_modification : ℕ → List ℕ → Option (Text × Text)
-option_modification standard comment = Option.map (λ (name : Text). (name, text_in comment)) (option_string standard)
 
 -- "element 1..118 or 0 missing"
 abbrev pub option_element : ℕ → Option ℕ
@@ -49,8 +44,7 @@ says_of zero a =
       element = option_element a.element;
       charge = a.charge;
     }
-says_of (suc zero) c =
-    record { name = string c.name; location = option_string c.location; modification = option_modification c.standard (comment_words c.comment) }
+says_of (suc zero) c = record { name = string c.name; location = option_string c.location }
 says_of (suc (suc zero)) r = record { serial = r.serial; code = option_string r.code }
 says_of (suc (suc (suc zero))) c = record { id = string c.id }
 says_of (suc (suc (suc (suc zero)))) m = record { serial = m.serial }
@@ -72,14 +66,6 @@ abbrev pub pack_option : Option Text → ℕ
 pack_option none = 0
 pack_option (some t) = pack t
 
-abbrev pub standard_word : Option (Text × Text) → ℕ
-standard_word none = 0
-standard_word (some m) = pack m.0
-
-abbrev pub pack_comment : Option (Text × Text) → Comment
-pack_comment none = comment_of []
-pack_comment (some m) = comment_of (packed_in 8 m.1)
-
 abbrev pub element_word : Option ℕ → ℕ
 element_word none = 0
 element_word (some e) = e
@@ -98,8 +84,7 @@ fields_from zero a =
       charge = a.charge;
       hetero = cond a.hetero 1 0;
     }
-fields_from (suc zero) c =
-    record { name = pack c.name; location = pack_option c.location; standard = standard_word c.modification; comment = pack_comment c.modification }
+fields_from (suc zero) c = record { name = pack c.name; location = pack_option c.location }
 fields_from (suc (suc zero)) r = record { serial = r.serial; code = pack_option r.code }
 fields_from (suc (suc (suc zero))) c = record { id = pack c.id }
 fields_from (suc (suc (suc (suc zero)))) m = record { serial = m.serial }

@@ -18,4 +18,4 @@
 // Assumed of std, for bytes below 128: specs/Std.antt, whose head names the definitions of `machine` that stand for `str::trim`, `<=` of `str`,
 // `f64::is_finite`, `==` of `isize`, `filter` and `retain`.
 //
-// Left out: `Atom::new`'s guess of an element; `counter`, `atf`, `database_reference`; lookup, which differs on purpose.
+// Left out: `Atom::new`'s guess of an element; `counter`, `atf`, `modification`, `database_reference`; lookup, which differs on purpose.

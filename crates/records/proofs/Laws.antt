@@ -1,25 +1,22 @@
 -- Twelve words as a record: what `good_record` asks of them at each kind, and an atom read out. Assumes nothing.
-use Prim.Native.Nat.{ℕ, zero, suc, ◌+◌, ◌-◌, ◌%◌, ◌≤◌, ◌<◌}
+use Prim.Native.Nat.{ℕ, zero, suc, ◌+◌, ◌-◌, ◌≤◌}
 use mathlib.Core.Path.{◌≡◌, refl, sym, ◌∙◌}
-use mathlib.Core.Bool.{Bool, true, false, ◌&&◌, cond, false≢true, and-false, and-true, and_assoc}
+use mathlib.Core.Bool.{Bool, true, false, ◌&&◌, false≢true, and-false, and-true, and_assoc}
 use mathlib.Core.List.{List, [], ◌∷◌}
 use native.Mathlib.Omega.{arith}
-use native.Mathlib.Numerals.{add-one}
-use lib.ListN.{length, get_or, take, drop, replicate, length-drop, drop_of_length-le}
-use lib.Seq.{drop-cons, take_all}
+use lib.ListN.{length, get_or, take, drop, replicate}
 use lib.Dec.{leb, eqb}
 use lib.IntN.{ℤ}
 use lib.Ieee.{Float, binary64, of_bits}
 use mir.Syntax.{w64}
 use mir.Val.{SFits, to_z, of_z}
 use mir.Facts.{to_z-of_z}
-use borrow.Author.Tests.{eq-eqb, ne_eqb, eqb-true, leb-true, leb-false}
+use borrow.Author.Tests.{eq-eqb, eqb-true, leb-true, leb-false}
 use Rattle.machine.specs.Lists.{all, same}
 use Rattle.laws.specs.Lists.{and_both}
-use Rattle.machine.specs.Text.{chain_id, insertion_code, conformer_name, alternative_location, atom_name, stored_by, absent_or, packed_text}
-use Rattle.machine.specs.Record.{Words, words, kind, finite, fields_of, good_values, good_modification, good_fields, good_record, read_out}
+use Rattle.machine.specs.Text.{chain_id, insertion_code, conformer_name, alternative_location, atom_name, stored_by, absent_or}
+use Rattle.machine.specs.Record.{Words, words, kind, finite, fields_of, good_values, good_fields, good_record, read_out}
 use Rattle.machine.specs.declared.AtomRec.{AtomRec}
-use Rattle.laws.specs.Comments.{eqb-sym, plain_words, plain-words}
 
 -- ---- twelve words
 
@@ -56,7 +53,7 @@ unfolding good_record words fields_of good_fields good_values
 atom-record = twelve _ (λ a b c d e f g h i j k l. simp (eqb_same, and-true, and_assoc))
 
 pub conformer-record : (r : Words) → length r ≡ 12 → kind r ≡ 4 →
-    stored_by conformer_name (get_or r 1 0) && absent_or alternative_location (get_or r 2 0) && good_modification (get_or r 3 0) (drop 4 r) ≡ good_record (5 - kind r) r
+    same (drop 3 r) zeros && stored_by conformer_name (get_or r 1 0) && absent_or alternative_location (get_or r 2 0) ≡ good_record (5 - kind r) r
 unfolding good_record words fields_of good_fields
 conformer-record = twelve _ (λ a b c d e f g h i j k l q. rw q (simp (eqb_same, and_assoc)))
 
@@ -93,69 +90,6 @@ good-low r most g = go (leb 1 (kind r)) refl
         let l = leb-false 1 (kind r) q in
         let no : (k : ℕ) → 1 ≤ k → kind r ≡ k → ⊥ = λ k h e. omega arith in
         absurd (false≢true (no_record r most (no 4 (omega arith)) (no 3 (omega arith)) (no 2 (omega arith)) (no 1 (omega arith)) ∙ g))
-
--- ---- a modification
-
-zero-alike : (n : ℕ) (ws : List ℕ) → length ws ≡ n → same ws (replicate n 0) ≡ all (eqb 0) ws
-zero-alike zero [] h = refl
-zero-alike zero (w ∷ ws) h = absurd (omega arith)
-zero-alike (suc n) [] h = absurd (omega arith)
-zero-alike (suc n) (w ∷ ws) h = rw (eqb-sym w 0, zero-alike n ws (omega arith))
-
-none-modified : (r : Words) → length r ≡ 12 → same (drop 3 r) zeros ≡ true → true ≡ good_modification (get_or r 3 0) (drop 4 r)
-unfolding good_modification
-none-modified = twelve _ (λ a b c d e f g h i j k l q. let p = and_both (eqb d 0) (same (e ∷ f ∷ g ∷ h ∷ i ∷ j ∷ k ∷ l ∷ []) (replicate 8 0)) q in rw p.0 (sym p.1 ∙ zero-alike 8 (e ∷ f ∷ g ∷ h ∷ i ∷ j ∷ k ∷ l ∷ []) refl))
-
-no_name : (r : Words) → length r ≡ 12 → same (drop 3 r) zeros ≡ false → get_or r 3 0 ≡ 0 → false ≡ good_modification (get_or r 3 0) (drop 4 r)
-unfolding good_modification
-no_name = twelve _ (λ a b c d e f g h i j k l q z. rw (eq-eqb d 0 z) (sym (rw (eq-eqb d 0 z) at q) ∙ zero-alike 8 (e ∷ f ∷ g ∷ h ∷ i ∷ j ∷ k ∷ l ∷ []) refl))
-
-module _ (r : Words) (h : length r ≡ 12) (b : Bool) (e : b ≡ same (drop 3 r) zeros) where
-  pub unmodified : b ≡ true → true ≡ good_modification (get_or r 3 0) (drop 4 r)
-  unmodified t = none-modified r h (sym e ∙ t)
-
-  pub comment-alone : b ≡ false → get_or r 3 0 ≡ 0 → false ≡ good_modification (get_or r 3 0) (drop 4 r)
-  comment-alone t z = no_name r h (sym e ∙ t) z
-
-pub modified : (r : Words) → length r ≡ 12 → (get_or r 3 0 ≡ 0 → ⊥) → (x y : Bool) → x ≡ packed_text (get_or r 3 0) → y ≡ plain_words (take (length r - 4) (drop 4 r)) → x && y ≡ good_modification (get_or r 3 0) (drop 4 r)
-unfolding good_modification
-modified = twelve _ (λ a b c d e f g h i j k l z x y u v. rw (ne_eqb d 0 z, u, v, plain-words (e ∷ f ∷ g ∷ h ∷ i ∷ j ∷ k ∷ l ∷ [])))
-
--- ---- the words of a comment
-
-module _ (s : List ℕ) (i : ℕ) (e : all (eqb 0) (drop i s) ≡ all (eqb 0) s) where
-  at-zeros : i < length s → all (eqb 0) s ≡ eqb 0 (get_or s i 0) && all (eqb 0) (drop (i + 1) s)
-  at-zeros h = sym e ∙ rw (add-one, drop-cons s i 0)
-
-  pub zero-next : i < length s → get_or s i 0 ≡ 0 → all (eqb 0) (drop (i + 1) s) ≡ all (eqb 0) s
-  zero-next h z = rw (at-zeros h, z)
-
-  pub zero-not : i < length s → (get_or s i 0 ≡ 0 → ⊥) → false ≡ all (eqb 0) s
-  zero-not h z = rw (at-zeros h, ne_eqb 0 (get_or s i 0) (λ q. z (sym q)))
-
-  pub zero-end : length s ≤ i → true ≡ all (eqb 0) s
-  zero-end h = rw (drop_of_length-le s h) at e
-
-module _ (s : List ℕ) (i : ℕ) (e : plain_words (drop i s) ≡ plain_words s) where
-  at_words : i < length s → plain_words s ≡ packed_text (get_or s i 0) && cond (eqb (get_or s i 0 % 256) 0) (all (eqb 0) (drop (i + 1) s)) (plain_words (drop (i + 1) s))
-  unfolding plain_words
-  at_words h = sym e ∙ rw (add-one, drop-cons s i 0)
-
-  module _ (h : i < length s) (p : Bool) (q : p ≡ packed_text (get_or s i 0)) where
-    pub word_next : p ≡ true → (get_or s i 0 % 256 ≡ 0 → ⊥) → plain_words (drop (i + 1) s) ≡ plain_words s
-    word_next t z = rw (at_words h, ← q, t, ne_eqb (get_or s i 0 % 256) 0 z)
-
-    pub word-last : p ≡ true → get_or s i 0 % 256 ≡ 0 → (z : Bool) → z ≡ all (eqb 0) (take (length s - (i + 1)) (drop (i + 1) s)) → z ≡ plain_words s
-    word-last t z r k =
-        let l : length (drop (i + 1) s) ≤ length s - (i + 1) = omega (arith, length-drop (i + 1) s) in
-        k ∙ rw (at_words h, ← q, t, z, take_all (length s - (i + 1)) (drop (i + 1) s) l)
-
-    pub word-bad : p ≡ false → false ≡ plain_words s
-    word-bad t = rw (at_words h, ← q, t)
-
-  pub words-end : length s ≤ i → true ≡ plain_words s
-  unfolding plain_words
-  words-end h = rw (drop_of_length-le s h) at e
 
 -- ---- an atom read out
 

@@ -1,13 +1,12 @@
 // One record of a store (document 01, "Store"): whether its twelve words are good, and an atom read out.
-ghost use Rattle.std.specs.Prelude.{◌≡◌, zero, ◌+◌, ◌-◌, ◌*◌, ◌≤◌, length, get_or, take, drop, replicate, eqb};
+ghost use Rattle.std.specs.Prelude.{◌≡◌, zero, ◌+◌, ◌-◌, ◌*◌, ◌≤◌, length, take, drop, replicate};
 ghost use Rattle.machine.specs.Lists.{all, same};
-ghost use Rattle.machine.specs.Record.{kind, finite, fields_of, good_modification, good_record, read_out};
-ghost use Rattle.laws.specs.Comments.{plain_words};
+ghost use Rattle.machine.specs.Record.{kind, finite, fields_of, good_record, read_out};
 
 use elements::Element;
 use machine::{AtomRec, Record};
 
-// Words not named are 0: those from 3 on, in a record above the atoms; a conformer has a modification there, or zeros.
+// Words not named are 0: those from 3 on, in a record above the atoms.
 fn unnamed_zero(r: &[u64]) -> bool
     requires { length r.now ≡ 12 }
     ensures { result ≡ same (drop 3 r.now) (replicate 9 0) }
@@ -21,53 +20,6 @@ fn unnamed_zero(r: &[u64]) -> bool
         & (r[9] == 0)
         & (r[10] == 0)
         & (r[11] == 0)
-}
-
-pub fn all_zero(s: &[u64]) -> bool
-    ensures { result ≡ all (eqb 0) s.now }
-{
-    let mut i: usize = 0;
-    while i < s.len() {
-        if s[i] == 0 {
-            i += 1;
-        } else {
-            return false;
-        }
-    }
-    true
-}
-
-// Whether the words of a comment are plain. One whose last byte is 0 ends it.
-fn plain_words(words: &[u64]) -> bool
-    ensures { result ≡ plain_words words.now }
-{
-    let mut i: usize = 0;
-    while i < words.len() {
-        let word = words[i];
-        if stored::packed_text(word) {
-            if word % 256 == 0 {
-                return all_zero(&words[i + 1..]);
-            }
-            i += 1;
-        } else {
-            return false;
-        }
-    }
-    true
-}
-
-// Change request §10. Most conformers have no modification, so all nine words are asked at once first.
-fn good_modification(r: &[u64]) -> bool
-    requires { length r.now ≡ 12 }
-    ensures { result ≡ good_modification (get_or r.now 3 0) (drop 4 r.now) }
-{
-    if unnamed_zero(r) {
-        return true;
-    }
-    if r[Record::STANDARD_NAME] == 0 {
-        return false;
-    }
-    stored::packed_text(r[Record::STANDARD_NAME]) & plain_words(&r[Record::COMMENT..])
 }
 
 // An atom's five floats are finite.
@@ -104,9 +56,9 @@ pub fn good_record(r: &[u64]) -> bool
 {
     match r[Record::KIND] {
         Record::CONFORMER => {
-            stored::stored_name(r[Record::CONFORMER_NAME])
+            unnamed_zero(r)
+                & stored::stored_name(r[Record::CONFORMER_NAME])
                 & stored::stored_location(r[Record::LOCATION])
-                & good_modification(r)
         }
         Record::RESIDUE => unnamed_zero(r) & stored::stored_code(r[Record::CODE]),
         Record::CHAIN => {

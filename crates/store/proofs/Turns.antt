@@ -4,9 +4,10 @@ use mathlib.Core.Path.{◌≡◌, refl, sym, ap, ◌∙◌}
 use mathlib.Core.Bool.{Bool, true, false, ◌&&◌, cond, and-false, and-true}
 use mathlib.Core.List.{List, [], ◌∷◌, ◌++◌, append-nil}
 use native.Mathlib.Omega.{arith}
+use native.Mathlib.Numerals.{add-one}
 use native.Mathlib.Nat.{add-zero, zero-add, add_comm}
 use lib.ListN.{length, get_or, take, drop, replicate, drop_of_length-le, length-take, length-drop, length-replicate}
-use lib.Seq.{drop-drop, get_or-take, get_or-drop}
+use lib.Seq.{drop-cons, drop-drop, get_or-take, get_or-drop}
 use lib.Dec.{leb, eqb}
 use borrow.Author.Tests.{eq-eqb, ne_eqb, eqb-true, eqb-false, le-leb, lt-leb, leb-true, leb-false}
 use Rattle.machine.specs.Lists.{all}
@@ -24,6 +25,21 @@ use Rattle.store.specs.Store.{checked_by, counted, trailing_atoms}
 use Rattle.store.proofs.Laws.{atoms-grouped}
 use Rattle.store.specs.declared.Checked.{Checked}
 use Rattle.store.specs.declared.Checked.TheVariants.{Good, Refused}
+
+-- ---- zeros
+
+module _ (s : List ℕ) (i : ℕ) (e : all (eqb 0) (drop i s) ≡ all (eqb 0) s) where
+  at-zeros : i < length s → all (eqb 0) s ≡ eqb 0 (get_or s i 0) && all (eqb 0) (drop (i + 1) s)
+  at-zeros h = sym e ∙ rw (add-one, drop-cons s i 0)
+
+  pub zero-next : i < length s → get_or s i 0 ≡ 0 → all (eqb 0) (drop (i + 1) s) ≡ all (eqb 0) s
+  zero-next h z = rw (at-zeros h, z)
+
+  pub zero-not : i < length s → (get_or s i 0 ≡ 0 → ⊥) → false ≡ all (eqb 0) s
+  zero-not h z = rw (at-zeros h, ne_eqb 0 (get_or s i 0) (λ q. z (sym q)))
+
+  pub zero-end : length s ≤ i → true ≡ all (eqb 0) s
+  zero-end h = rw (drop_of_length-le s h) at e
 
 -- ---- the records
 

@@ -1,5 +1,6 @@
 // The store (document 01, "Store"): its layout check, and opening.
 ghost use Rattle.std.specs.Prelude.{◌≡◌, cond, ◌+◌, ◌*◌, ◌/◌, ◌%◌, ◌≤◌, length, eqb};
+ghost use Rattle.machine.specs.Lists.{all};
 ghost use Rattle.machine.specs.Answer.{opened_numbers};
 ghost use Rattle.machine.specs.Store.{chunks, read_store, open_run};
 ghost use Rattle.store.specs.Store.{checked_by, counted, trailing_atoms};
@@ -74,6 +75,20 @@ fn check_records(store: &[u64], end: usize) -> Checked
     Checked::Good(atoms)
 }
 
+fn all_zero(s: &[u64]) -> bool
+    ensures { result ≡ all (eqb 0) s.now }
+{
+    let mut i: usize = 0;
+    while i < s.len() {
+        if s[i] == 0 {
+            i += 1;
+        } else {
+            return false;
+        }
+    }
+    true
+}
+
 // One pass over the words: 1 bad length; 2 layout broken.
 pub fn check(store: &[u64]) -> Checked
     ensures { result ≡ checked_by (read_store store.now) }
@@ -93,7 +108,7 @@ pub fn check(store: &[u64]) -> Checked
     if end % Record::WIDTH != 0 {
         return Checked::Refused(Refusal::BrokenLayout);
     }
-    if records::all_zero(&store[end..last]) {
+    if all_zero(&store[end..last]) {
         check_records(store, end)
     } else {
         Checked::Refused(Refusal::BrokenLayout)

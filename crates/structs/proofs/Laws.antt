@@ -27,7 +27,6 @@ use Rattle.machine.specs.Edit.{
   JoinResidues,
   JoinConformers,
   SetElement,
-  SetModification,
   add_model,
   prepare,
   add_prepared,
@@ -49,7 +48,7 @@ use Rattle.seek.specs.Seek.{held, Good}
 use Rattle.removals.specs.Removal.{removal}
 use Rattle.removals.specs.Named.{chain_by_id, residue_by_id, conformer_by_id, atom_by_serial_number}
 use Rattle.joins.specs.Join.{join}
-use Rattle.settings.specs.Set.{element_set, modification_set}
+use Rattle.settings.specs.Set.{element_set}
 use Rattle.lookup.specs.Level as Level
 
 -- ---- on a refused store
@@ -125,10 +124,6 @@ module _ {x : List ℕ × List ℕ} (w : List ℕ) (i c r f a : ℕ) where
   pub element-set : (element : ℕ) → x ≡ step_by w (element_set (i ∷ c ∷ r ∷ f ∷ a ∷ []) element) → x ≡ store_step w (SetElement i c r f a element)
   unfolding store_step machine_step
   element-set element e = e
-
-  pub modification-set : (name comment : List ℕ) → x ≡ step_by w (modification_set (i ∷ c ∷ r ∷ f ∷ []) name comment) → x ≡ store_step w (SetModification i c r f name comment)
-  unfolding store_step machine_step
-  modification-set name comment e = e
 
 module _ {x : List ℕ × List ℕ} (w : List ℕ) (i c r f i' c' r' f' : ℕ) where
   pub models-joined : x ≡ step_by w (join (i ∷ []) (i' ∷ [])) → x ≡ store_step w (JoinModels i i')

@@ -1,7 +1,7 @@
 // After conformer.rs.
 ghost use Rattle.std.specs.Prelude.{◌≡◌, [], ◌∷◌};
 ghost use Rattle.machine.specs.Answer.{edited_numbers, found_numbers};
-ghost use Rattle.machine.specs.Edit.{store_step, RemoveAtom, RemoveAtomBySerialNumber, JoinConformers, SetModification};
+ghost use Rattle.machine.specs.Edit.{store_step, RemoveAtom, RemoveAtomBySerialNumber, JoinConformers};
 ghost use Rattle.machine.specs.Find.{find_from};
 
 use super::positions;
@@ -75,27 +75,4 @@ pub fn join(
     let first = [model, chain, residue, conformer];
     let second = [second_model, second_chain, second_residue, second_conformer];
     positions::join_at(store, &first, &second)
-}
-
-// Change request §10: sets a standard name and a comment, in the place of those that may be there.
-pub fn set_modification(
-    store: &mut [u64],
-    model: u64,
-    chain: u64,
-    residue: u64,
-    conformer: u64,
-    name: &[u8],
-    comment: &[u8],
-) -> Edited
-    ensures { (edited_numbers result, store.new)
-        ≡ store_step store.old (SetModification model chain residue conformer name.now comment.now) }
-{
-    let checked = store::check(store);
-    match checked {
-        Checked::Refused(refusal) => Edited::Refused(refusal),
-        Checked::Good(_atoms) => {
-            let position = [model, chain, residue, conformer];
-            settings::set_modification(store, &position, name, comment)
-        }
-    }
 }

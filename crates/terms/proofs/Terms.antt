@@ -11,7 +11,7 @@ use borrow.Author.Tests.{leb-true, le-leb, eqb-true, eqb-false, not-true}
 use types.Run.{OneOf}
 use denote.Enum.Declared.{tag_of}
 use Rattle.machine.specs.Lists.{all}
-use Rattle.machine.specs.Record.{ConformerLabel}
+use Rattle.machine.specs.Record.{Conformer}
 use Rattle.machine.specs.Query.{Place, Names, only_if, between, window, member, among_residues, term_value}
 use Rattle.machine.specs.Find.{nowhere}
 use Rattle.machine.specs.declared.Tri.{Tri}
@@ -204,7 +204,7 @@ narrow-false False = refl
 narrow-false True = refl
 narrow-false Undecided = refl
 
-narrow-among : (names : Names) (o : Option ConformerLabel) (a : Tri) → narrow a (among_residues names o Undecided) ≡ among_residues names o a
+narrow-among : (names : Names) (o : Option Conformer) (a : Tri) → narrow a (among_residues names o Undecided) ≡ among_residues names o a
 narrow-among names none a = narrow-alone a
 narrow-among names (some c) a = go (member names.residues c.name)
   where

@@ -1,7 +1,7 @@
 -- Places at which one level alone is known, and the place that five records of a store make. Assumes nothing.
 use Rattle.std.specs.Prelude.{ℕ, ◌+◌, ◌*◌, ◌≤◌, Bool, List, length, leb}
 use Rattle.std.proofs.Math.Option.{Option, none, some}
-use Rattle.machine.specs.Record.{Model, Chain, Residue, ConformerLabel, Atom, label, fields_of}
+use Rattle.machine.specs.Record.{Model, Chain, Residue, Conformer, Atom, fields_of}
 use Rattle.machine.specs.Query.{Place, window, term_value}
 use Rattle.machine.specs.declared.Tri.{Tri}
 use Rattle.machine.specs.declared.Tri.TheVariants.{False, True, Undecided}
@@ -19,7 +19,7 @@ at_chain o = record { model = none; chain = o; residue = none; conformer = none;
 abbrev pub at_residue : Option Residue → Place
 at_residue o = record { model = none; chain = none; residue = o; conformer = none; atom = none }
 
-abbrev pub at_conformer : Option ConformerLabel → Place
+abbrev pub at_conformer : Option Conformer → Place
 at_conformer o = record { model = none; chain = none; residue = none; conformer = o; atom = none }
 
 abbrev pub at_atom : Option Atom → Place
@@ -64,7 +64,7 @@ place_at w at =
       model = some (fields_of 4 (record_at at.model w));
       chain = some (fields_of 3 (record_at at.chain w));
       residue = some (fields_of 2 (record_at at.residue w));
-      conformer = some (label (fields_of 1 (record_at at.conformer w)));
+      conformer = some (fields_of 1 (record_at at.conformer w));
       atom = some (fields_of 0 (record_at at.atom w));
     }
 

@@ -2,7 +2,7 @@
 ghost use Rattle.std.specs.Prelude.{◌≡◌, cond, true, false, List, ℕ, ◌+◌, ◌*◌, ◌≤◌, ◌<◌, length, get_or, eqb};
 ghost use Rattle.std.proofs.Math.Option.{some};
 ghost use Rattle.machine.specs.Kleene as Kleene;
-ghost use Rattle.machine.specs.Record.{Atom, label, fields_of, read_out};
+ghost use Rattle.machine.specs.Record.{Atom, fields_of, read_out};
 ghost use Rattle.machine.specs.Query as Query;
 ghost use Rattle.machine.specs.declared.Tri.TheVariants.{False, Undecided};
 ghost use Rattle.seek.specs.Seek.{record_at};
@@ -272,7 +272,7 @@ fn conformer_value(t: Term, words: &[u64], number: u64, known: bool, residues: &
     requires { number * 12 + 12 ≤ length words.now }
     ensures { (others : List ℕ)
         → result ≡ Query.term_value (record { residues = residues.entry.now; atoms = others })
-        (at_conformer (Query.only_if known (some (label (fields_of 1 (record_at number words.now)))))) t }
+        (at_conformer (Query.only_if known (some (fields_of 1 (record_at number words.now))))) t }
 {
     if known {
         let name = word(words, number, Record::CONFORMER_NAME);

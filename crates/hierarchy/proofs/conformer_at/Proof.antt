@@ -10,14 +10,8 @@ word-requires c κs = search rules
 word-requires-2 : tie.Need-word-requires-2
 word-requires-2 c κs = search rules
 
-word-requires-3 : tie.Need-word-requires-3
-word-requires-3 c κs = search rules
-
-comment-at-requires : tie.Need-comment-at-requires
-comment-at-requires c κs = search rules
-
 returns : tie.Need-returns
 returns c = search (rules, conformer-read)
 
 pub conformer-at-spec : {M : Type 1} → statement M
-conformer-at-spec = tie.close (tie.spec word-requires word-requires-2 word-requires-3 comment-at-requires returns)
+conformer-at-spec = tie.close (tie.spec word-requires word-requires-2 returns)

@@ -7,6 +7,9 @@ use Rattle.records.proofs.good_record.Tie as tie
 shared-slice-read-match : tie.Need-shared-slice-read-match
 shared-slice-read-match c = search rules
 
+unnamed-zero-requires : tie.Need-unnamed-zero-requires
+unnamed-zero-requires c κs = search rules
+
 shared-slice-read-stored-name : tie.Need-shared-slice-read-stored-name
 shared-slice-read-stored-name c = search rules
 
@@ -18,12 +21,6 @@ shared-slice-read-stored-location c = search rules
 
 stored-location-requires : tie.Need-stored-location-requires
 stored-location-requires c κs = search rules
-
-good-modification-requires : tie.Need-good-modification-requires
-good-modification-requires c κs = search rules
-
-unnamed-zero-requires : tie.Need-unnamed-zero-requires
-unnamed-zero-requires c κs = search rules
 
 unnamed-zero-requires-2 : tie.Need-unnamed-zero-requires-2
 unnamed-zero-requires-2 c κs = search rules
@@ -48,6 +45,9 @@ stored-chain-id-requires c κs = search rules
 
 shared-slice-read-result-2 : tie.Need-shared-slice-read-result-2
 shared-slice-read-result-2 c = search rules
+
+unnamed-zero-requires-4 : tie.Need-unnamed-zero-requires-4
+unnamed-zero-requires-4 c κs = search rules
 
 returns : tie.Need-returns
 returns c =
@@ -80,20 +80,20 @@ good-record-spec =
     tie.close
     (tie.spec
     shared-slice-read-match
+    unnamed-zero-requires
     shared-slice-read-stored-name
     stored-name-requires
     shared-slice-read-stored-location
     stored-location-requires
-    good-modification-requires
-    unnamed-zero-requires
+    unnamed-zero-requires-2
     shared-slice-read-stored-code
     stored-code-requires
     shared-slice-read-result
-    unnamed-zero-requires-2
+    unnamed-zero-requires-3
     shared-slice-read-stored-chain-id
     stored-chain-id-requires
     shared-slice-read-result-2
-    unnamed-zero-requires-3
+    unnamed-zero-requires-4
     returns
     returns-2
     returns-3

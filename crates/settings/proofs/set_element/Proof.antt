@@ -43,11 +43,8 @@ same-length-3 c = search rules
 returns-3 : tie.Need-returns-3
 returns-3 c = search (rules, element-present)
 
-slice-aggregate-put-words : tie.Need-slice-aggregate-put-words
-slice-aggregate-put-words c = search rules
-
-put-words-requires : tie.Need-put-words-requires
-put-words-requires c κs = search (rules, element-there)
+put-word-requires : tie.Need-put-word-requires
+put-word-requires c κs = search (rules, element-there)
 
 same-length-4 : tie.Need-same-length-4
 same-length-4 c = search rules
@@ -72,7 +69,6 @@ set-element-spec =
     word-requires
     same-length-3
     returns-3
-    slice-aggregate-put-words
-    put-words-requires
+    put-word-requires
     same-length-4
     returns-4)

@@ -1,13 +1,13 @@
--- `records::all_zero` meets its contract. The loop's invariant: what is left is all zeros just if the whole is. Assumes nothing.
+-- `store::all_zero` meets its contract. The loop's invariant: what is left is all zeros just if the whole is. Assumes nothing.
 use Prim.Native.Nat.{◌≤◌, ◌-◌}
 use mathlib.Core.Path.{◌≡◌}
 use lib.Dec.{eqb}
 use lib.ListN.{length, drop}
 use borrow.Author.Rules.{rules}
 use Rattle.machine.specs.Lists.{all}
-use Rattle.records.proofs.Laws.{zero-next, zero-not, zero-end}
-use Rattle.records.proofs.all_zero.Statement.{statement}
-use Rattle.records.proofs.all_zero.Tie as tie
+use Rattle.store.proofs.Turns.{zero-next, zero-not, zero-end}
+use Rattle.store.proofs.all_zero.Statement.{statement}
+use Rattle.store.proofs.all_zero.Tie as tie
 
 abbrev invariant-loop : tie.invariant-loop
 invariant-loop s i₀ i = (i ≤ length s) × (all (eqb 0) (drop i s) ≡ all (eqb 0) s)
