@@ -1,5 +1,7 @@
 // Additions (document 01, "Edits"): a model, and an atom with what is missing above it. The store is known to be good; new records go in
 // by one move of the words behind them. A refusal writes nothing. `insertion` finds where they go.
+#![tactic(auto)]
+
 ghost use Rattle.std.specs.Prelude.{◌≡◌, ◌+◌, ◌*◌, ◌≤◌, ◌<◌, length, true, [], ◌∷◌};
 ghost use Rattle.machine.specs.Answer.{ok, edited_numbers};
 ghost use Rattle.machine.specs.Text.{optional_of};
@@ -18,7 +20,7 @@ use seek::Span;
 
 // ---- the arguments
 
-#[derive(Drop)]
+#[derive(Clone, Copy)]
 enum Word {
     Is(u64),
     Bad,
@@ -36,7 +38,7 @@ fn word_of(prepared: Prepared) -> Word
 }
 
 // An addition that is prepared, or its refusal.
-#[derive(Drop)]
+#[derive(Clone, Copy)]
 pub enum Preparation {
     Ready(PreparedAddition),
     Refused(Refusal),
@@ -172,7 +174,7 @@ pub fn add_model(store: &mut [u64], serial: u64) -> Edited
 }
 
 // An answer, and where the next addition may go on.
-#[derive(Drop)]
+#[derive(Clone, Copy)]
 pub struct Added {
     pub edited: Edited,
     pub cursor: Cursor,

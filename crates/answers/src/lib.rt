@@ -1,4 +1,6 @@
 // Each answer as the numbers that document 01 gives it.
+#![tactic(auto)]
+
 ghost use Rattle.std.specs.Prelude.{◌≡◌, [], ◌∷◌};
 ghost use Rattle.machine.specs.Answer.{refusal_number, bad_name, opened_numbers, edited_numbers, found_numbers, written_numbers, applied_numbers, looked_up_numbers, edit_fields, find_fields, write_fields, apply_fields, lookup_fields};
 
@@ -128,7 +130,7 @@ pub fn of_applied(a: Applied) -> ApplyAnswer
 }
 
 fn without_place(res: u64) -> LookupAnswer
-    ensures* { λ r. ⌜ r ≡ record { result = res; found = 0; model = 0; chain = 0; residue = 0; conformer = 0; atom = 0 } ⌝ }
+    ensures { result ≡ record { result = res; found = 0; model = 0; chain = 0; residue = 0; conformer = 0; atom = 0 } }
 {
     LookupAnswer {
         result: res,

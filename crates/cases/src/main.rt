@@ -1,4 +1,6 @@
 // Worked cases 9 and 10 of document 01 as runs of the code, and the third demand's counts on its store S, whole and from a chain.
+#![tactic(auto)]
+
 use machine::{Edited, Found, NewAtom, Record};
 use structs::{model, pdb};
 

@@ -1,5 +1,7 @@
 // The third demand as the contract of a function: a store is opened, a list of edits applied to it, and find run from one start for A, B,
 // "A and B", "A or B" and "not A", each into an output of its own.
+#![tactic(auto)]
+
 ghost use Rattle.std.specs.Prelude.{◌≡◌, [], ◌∷◌, ◌++◌, length};
 ghost use Rattle.machine.specs.Answer.{found_numbers};
 ghost use Rattle.machine.specs.Find.{find_from};
@@ -8,7 +10,7 @@ ghost use Rattle.claims.specs.Claim.{runs_seen, seen, whole_run, Claims};
 
 use machine::{Applied, Found, Opened};
 
-#[derive(Drop)]
+#[derive(Clone, Copy)]
 pub struct Finds {
     pub first: Found,
     pub second: Found,
@@ -17,7 +19,7 @@ pub struct Finds {
     pub opposite: Found,
 }
 
-#[derive(Drop)]
+#[derive(Clone, Copy)]
 pub struct Answers {
     pub opened: Opened,
     pub applied: Applied,

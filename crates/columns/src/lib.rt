@@ -1,4 +1,6 @@
 // The columns of PDB lines, put one after the other into a line of blanks, and which fields fit into their columns.
+#![tactic(auto)]
+
 ghost use Rattle.std.specs.Prelude.{◌≡◌, true, cond, ◌++◌, [], ◌∷◌, ◌+◌, ◌-◌, ◌*◌, ◌/◌, ◌^◌, ◌≤◌, ◌<◌, leb, ltb, eqb, nat_abs, length, get_or};
 ghost use Rattle.std.specs.Int.{w64};
 ghost use Rattle.std.proofs.Common.{to_z};
@@ -15,7 +17,7 @@ ghost use Rattle.columns.specs.Cells.{symbol_columns};
 use machine::Record;
 
 // What an atom stands under: the words of its chain, residue and conformer.
-#[derive(Drop)]
+#[derive(Clone, Copy)]
 pub struct Above {
     pub chain: u64,
     pub serial: u64,
@@ -25,14 +27,14 @@ pub struct Above {
 }
 
 // A number of units of the last decimal, with a minus or without.
-#[derive(Drop)]
+#[derive(Clone, Copy)]
 pub struct Decimal {
     pub minus: bool,
     pub size: u64,
 }
 
 // An atom's decimals as a line has them: coordinates to three decimals, occupancy and B-factor to two.
-#[derive(Drop)]
+#[derive(Clone, Copy)]
 pub struct Decimals {
     pub x: Decimal,
     pub y: Decimal,

@@ -1,4 +1,6 @@
 // A store copied into other words, so that it gets room for more records.
+#![tactic(auto)]
+
 ghost use Rattle.std.specs.Prelude.{◌≡◌, ◌<◌, length, take};
 ghost use Rattle.machine.specs.Answer.{opened_numbers};
 ghost use Rattle.machine.specs.Store.{laid};

@@ -1,4 +1,6 @@
 // Decimal numbers and other bytes put into a lent text, each from an index on, and answered with the index where it ends.
+#![tactic(auto)]
+
 ghost use Rattle.std.specs.Prelude.{◌≡◌, [], ◌∷◌, ◌++◌, ◌+◌, ◌≤◌, length};
 ghost use Rattle.machine.specs.Program.{digits, decimal};
 ghost use Rattle.decimals.specs.Put.{put_at};

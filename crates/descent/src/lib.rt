@@ -1,5 +1,7 @@
 // One turn of a search's pruned pass (document 01, "Trees and find"): where the pass stands among a store's records, and whether what is
 // below a record needs a look. Nothing is looked at below one where the tree is false, and nothing is evaluated below one where it is true.
+#![tactic(auto)]
+
 ghost use Rattle.std.specs.Prelude.{◌≡◌, ◌-◌, ◌≤◌, set};
 ghost use Rattle.machine.specs.Query.{read_tree};
 ghost use Rattle.seek.specs.Seek.{five_numbers};
@@ -27,7 +29,7 @@ pub fn enter(at: &mut [u64; 5], kind: u64, n: u64)
 
 // Beside the last records that were seen: how many of them the next one may stand under, and the kind of one at which the
 // tree is true, so that what is below needs no look. No record is of a kind above 5, which stands for none.
-#[derive(Drop)]
+#[derive(Clone, Copy)]
 pub struct State {
     pub live: u64,
     pub settled: u64,

@@ -1,4 +1,6 @@
 // One call of a list of edits: its words are decoded, and its core is run. The store is known to be good, and the words to be a call.
+#![tactic(auto)]
+
 ghost use Rattle.std.specs.Prelude.{◌≡◌, true, ◌+◌, ◌≤◌, length};
 ghost use Rattle.std.proofs.Math.Option.{some, map};
 ghost use Rattle.machine.specs.Lists.{is_some};

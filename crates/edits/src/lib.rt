@@ -1,5 +1,7 @@
 // A list of edits as one call: the store is checked once, and each call then runs its core. Consecutive additions reuse the previous
 // insertion point, so a list in file order does not rescan the model.
+#![tactic(auto)]
+
 ghost use Rattle.std.specs.Prelude.{◌≡◌, true, ◌+◌, ◌*◌, ◌≤◌, length};
 ghost use Rattle.std.proofs.Math.Option.{some, map};
 ghost use Rattle.machine.specs.Lists.{is_some};

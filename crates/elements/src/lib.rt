@@ -1,13 +1,15 @@
 // "`Element`: a number, with constants and tests belonging to its type" (elements.rs).
+#![tactic(auto)]
+
 ghost use Rattle.std.specs.Prelude.{◌≡◌, leb};
 ghost use Rattle.elements.specs.Element.{element_of};
 
-#[derive(Drop)]
+#[derive(Clone, Copy)]
 pub struct Element {
     pub number: u64,
 }
 
-#[derive(Drop)]
+#[derive(Clone, Copy)]
 pub enum MaybeElement {
     Is(Element),
     NotOne,

@@ -1,5 +1,7 @@
 // The C interface: a slice is a pointer and a length, an answer the numbers that document 01 gives it. Floats and signed numbers
 // are given by their bits.
+#![tactic(auto)]
+
 ghost use Rattle.std.specs.Prelude.{◌≡◌, [], ◌∷◌};
 ghost use Rattle.machine.specs.Answer.{result_number, edit_fields, find_fields, write_fields, apply_fields, lookup_fields};
 ghost use Rattle.machine.specs.Text.{optional_of};

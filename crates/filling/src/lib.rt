@@ -1,5 +1,7 @@
 // PDB lines in (change request §9): the structure of a text that is the writer's. The store is opened, and each model's atoms are added chain
 // by chain. So an addition moves only what its own chain has behind it, which is nothing where the chain's lines stand in the writer's order.
+#![tactic(auto)]
+
 ghost use Rattle.std.specs.Prelude.{◌≡◌, true, [], ◌∷◌, ◌++◌, ◌+◌, ◌≤◌, ◌<◌, length};
 ghost use Rattle.machine.specs.Lists.{all};
 ghost use Rattle.machine.specs.Store.{records, capacity, good_length, lay_out};

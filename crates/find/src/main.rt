@@ -1,4 +1,5 @@
 // The program `find` (document 01, "Serial lookup and program"): a store and a tree from standard input, the hits to standard output.
+#![tactic(auto)]
 
 fn main() {
     // one byte more than is allowed, so that a longer input is seen

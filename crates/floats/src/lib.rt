@@ -1,4 +1,6 @@
 // Words as floats and signed numbers, and the tests on floats (atom.rs, search.rs).
+#![tactic(auto)]
+
 ghost use Rattle.std.specs.Prelude.{◌≡◌};
 ghost use Rattle.std.specs.Float.{binary64};
 ghost use Rattle.std.specs.Float.Ieee.{of_bits};

@@ -1,5 +1,7 @@
 // Identifiers, after pdbtbx's helper.rs (document 01, "Identifiers"): what becomes of a text that is given, from the check of its bytes to
 // the word that is stored.
+#![tactic(auto)]
+
 ghost use Rattle.std.specs.Prelude.{◌≡◌, cond, ◌≤◌, ◌<◌, length, take, drop, get_or};
 ghost use Rattle.machine.specs.Lists.{all};
 ghost use Rattle.machine.specs.Text.{plain, blank, to_upper, trim_start, trim, pack, fit, chain_id, uppercase_or, insertion_code, alternative_location, atom_name, by_flag};

@@ -1,40 +1,42 @@
 // Hits that borrow the store, after hierarchy.rs.
+#![tactic(auto)]
+
 ghost use Rattle.std.specs.Prelude.{◌≡◌, ◌<◌, get_or};
 ghost use Rattle.hierarchy.specs.Hit.{record_of, is_kind, are_kinds, named_by, nth_of, hit_of, model_of, chain_of, residue_of, conformer_of, atom_of};
 
 use machine::{AtomRec, Record, RecordNumbers};
 
-#[derive(Drop)]
+#[derive(Clone, Copy)]
 pub struct ModelRec {
     pub serial: u64,
 }
 
-#[derive(Drop)]
+#[derive(Clone, Copy)]
 pub struct ChainRec {
     pub id: u64,
 }
 
-#[derive(Drop)]
+#[derive(Clone, Copy)]
 pub struct ResidueRec {
     pub serial: i64,
     pub code: u64,
 }
 
-#[derive(Drop)]
+#[derive(Clone, Copy)]
 pub struct ConformerRec {
     pub name: u64,
     pub location: u64,
 }
 
 // What the five words of a hit name, or that they name nothing.
-#[derive(Drop)]
+#[derive(Clone, Copy)]
 pub enum Named {
     At(RecordNumbers),
     Missing,
 }
 
 // pdbtbx's `AtomConformerResidueChainModel`: "a hit that borrows the store and names five records".
-#[derive(Drop)]
+#[derive(Clone, Copy)]
 pub struct Hit<'a> {
     pub store: &'a [u64],
     pub model: u64,

@@ -1,4 +1,6 @@
 // The hits of find on a small store, read out by `Hit`.
+#![tactic(auto)]
+
 ghost use Rattle.std.specs.Prelude.{◌≡◌};
 ghost use Rattle.hierarchy.specs.Hit.{model_of, chain_of, residue_of, conformer_of, atom_of};
 

@@ -1,6 +1,8 @@
 // Where an atom's addition goes (document 01, "Edits"): the model, then the first chain, the last residue and the first conformer that
 // match. The store is known to be good. Consecutive additions reuse the previous insertion point: a `Cursor` keeps it, which saves the
 // scans of the model and of the chain where a list is in file order.
+#![tactic(auto)]
+
 ghost use Rattle.std.specs.Prelude.{◌≡◌, false, [], ◌∷◌, ◌+◌, ◌*◌, ◌≤◌, length};
 ghost use Rattle.seek.specs.Seek.{Good, Within, held, record_at, records_in, span, span_of};
 ghost use Rattle.insertion.specs.Pick.{marks, pick_start, pick_span, child_of, chain_key, residue_key, conformer_key, keys_of, spot_in, found_of};
@@ -12,7 +14,7 @@ use seek::Span;
 // ---- records by what marks them
 
 // What a record below a parent is looked for by: its kind, its words 1 and 2, and whether the last of such records is meant or the first.
-#[derive(Drop)]
+#[derive(Clone, Copy)]
 pub struct Key {
     kind: u64,
     first: u64,
@@ -34,7 +36,7 @@ fn is_marked(store: &[u64], at: usize, key: Key) -> bool
 }
 
 // The number of a record.
-#[derive(Drop)]
+#[derive(Clone, Copy)]
 enum Child {
     At(usize),
     Missing,
@@ -77,7 +79,7 @@ fn pick_child(store: &[u64], from: usize, end: usize, key: Key) -> Span
 
 // A model, a chain of it and the chain's last residue, by their records. If `topped` is true, no residue of the chain ranks above `top`.
 // Where `known` is false the rest says nothing.
-#[derive(Drop)]
+#[derive(Clone, Copy)]
 pub struct Cursor {
     known: bool,
     model: u64,
@@ -206,7 +208,7 @@ fn conformer_span(store: &[u64], residue: usize, end: usize, name: u64, location
 // ---- where the new records go
 
 // The record number at which new records go, how many of chain, residue and conformer stand already, and the chain's span if it does.
-#[derive(Drop)]
+#[derive(Clone, Copy)]
 pub struct Spot {
     pub at: usize,
     pub depth: usize,

@@ -1,4 +1,6 @@
 // The four joins of document 01, "Edits", on a store that is known to be good, in place.
+#![tactic(auto)]
+
 ghost use Rattle.std.specs.Prelude.{◌≡◌, ◌≤◌, length};
 ghost use Rattle.machine.specs.Answer.{edited_numbers};
 ghost use Rattle.machine.specs.Store.{records, laid};

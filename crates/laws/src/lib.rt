@@ -1,1 +1,2 @@
 // Laws of the definitions of `machine`, in specs/. There is no code here.
+#![tactic(auto)]

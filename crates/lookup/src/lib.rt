@@ -1,5 +1,7 @@
 // Serial lookup in a store that is known to be good (document 01, "Serial lookup"). Levels count from the atom, 0, up to the
 // chain, 3.
+#![tactic(auto)]
+
 ghost use Rattle.std.specs.Prelude.{◌≡◌, ◌+◌, eqb};
 ghost use Rattle.machine.specs.Lists.{any, last_of};
 ghost use Rattle.machine.specs.Answer.{looked_up_numbers};

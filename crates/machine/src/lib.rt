@@ -1,7 +1,8 @@
 // The types that the definitions of specs/ go by, and a record's numbers. Names are pdbtbx's where it has one.
+#![tactic(auto)]
 
 // Kleene's three values.
-#[derive(Drop)]
+#[derive(Clone, Copy)]
 pub enum Tri {
     False,
     True,
@@ -9,7 +10,7 @@ pub enum Tri {
 }
 
 // What a query may ask of an atom and of what stands above it, in pdbtbx's order: codes 1 to 22. Texts are packed.
-#[derive(Drop)]
+#[derive(Clone, Copy)]
 pub enum Term {
     ModelSerialNumber(u64),
     ModelSerialNumberRange(u64, u64),
@@ -35,7 +36,7 @@ pub enum Term {
     Hetero,
 }
 
-#[derive(Drop)]
+#[derive(Clone, Copy)]
 pub enum Ops {
     And,
     Or,
@@ -43,7 +44,7 @@ pub enum Ops {
 }
 
 // A tree's node, in postfix order: pdbtbx's `Search` without its boxes.
-#[derive(Drop)]
+#[derive(Clone, Copy)]
 pub enum Node {
     Single(Term),
     Binary(Ops),
@@ -52,7 +53,7 @@ pub enum Node {
 }
 
 // A record's width in words, its kinds, and the words at which its fields stand.
-#[derive(Drop)]
+#[derive(Clone, Copy)]
 pub struct Record;
 
 impl Record {
@@ -106,7 +107,7 @@ impl Record {
 }
 
 // IEEE 754's classes of a float. Finite are exactly the first three.
-#[derive(Drop)]
+#[derive(Clone, Copy)]
 pub enum FloatClass {
     Zero,
     Subnormal,
@@ -116,7 +117,7 @@ pub enum FloatClass {
 }
 
 // An atom read out of its record.
-#[derive(Drop)]
+#[derive(Clone, Copy)]
 pub struct AtomRec {
     pub serial: u64,
     pub name: u64,
@@ -132,7 +133,7 @@ pub struct AtomRec {
 
 // The values of an atom that is added; floats and the charge are given by their bits.
 #[repr(C)]
-#[derive(Drop)]
+#[derive(Clone, Copy)]
 pub struct NewAtom {
     pub serial: u64,
     pub x: u64,
@@ -146,7 +147,7 @@ pub struct NewAtom {
 }
 
 // An atom to add: the ids of what it is put under and its name, as they are stored, and its values.
-#[derive(Drop)]
+#[derive(Clone, Copy)]
 pub struct PreparedAddition {
     pub chain: u64,
     pub residue: u64,
@@ -158,7 +159,7 @@ pub struct PreparedAddition {
 }
 
 // An identifier made ready for the store.
-#[derive(Drop)]
+#[derive(Clone, Copy)]
 pub enum Prepared {
     Stored(u64),
     Absent,
@@ -166,7 +167,7 @@ pub enum Prepared {
 }
 
 // The names that an edit or a lookup may be given.
-#[derive(Drop)]
+#[derive(Clone, Copy)]
 pub enum Name {
     ChainId,
     InsertionCode,
@@ -176,7 +177,7 @@ pub enum Name {
 }
 
 // Why a call was refused, in the order of the numbers.
-#[derive(Drop)]
+#[derive(Clone, Copy)]
 pub enum Refusal {
     BadLength,
     BrokenLayout,
@@ -199,42 +200,42 @@ pub enum Refusal {
     ShortAnswers,
 }
 
-#[derive(Drop)]
+#[derive(Clone, Copy)]
 pub enum Opened {
     Done,
     Refused(Refusal),
 }
 
 // Found, and the atoms removed.
-#[derive(Drop)]
+#[derive(Clone, Copy)]
 pub enum Edited {
     Done(u64, u64),
     Refused(Refusal),
 }
 
 // The number of hits.
-#[derive(Drop)]
+#[derive(Clone, Copy)]
 pub enum Found {
     Hits(u64),
     Refused(Refusal),
 }
 
 // The length of a text in bytes.
-#[derive(Drop)]
+#[derive(Clone, Copy)]
 pub enum Written {
     Bytes(u64),
     Refused(Refusal),
 }
 
 // The number of edits in a list.
-#[derive(Drop)]
+#[derive(Clone, Copy)]
 pub enum Applied {
     Done(u64),
     Refused(Refusal),
 }
 
 // The record numbers of an atom and of what it stands under.
-#[derive(Drop)]
+#[derive(Clone, Copy)]
 pub struct RecordNumbers {
     pub model: u64,
     pub chain: u64,
@@ -243,7 +244,7 @@ pub struct RecordNumbers {
     pub atom: u64,
 }
 
-#[derive(Drop)]
+#[derive(Clone, Copy)]
 pub enum LookedUp {
     At(RecordNumbers),
     NotFound,
@@ -253,7 +254,7 @@ pub enum LookedUp {
 // ---- answers as their fields: "A result is 0 with its fields, or one of these."
 
 #[repr(C)]
-#[derive(Drop)]
+#[derive(Clone, Copy)]
 pub struct EditAnswer {
     pub result: u64,
     pub found: u64,
@@ -261,28 +262,28 @@ pub struct EditAnswer {
 }
 
 #[repr(C)]
-#[derive(Drop)]
+#[derive(Clone, Copy)]
 pub struct FindAnswer {
     pub result: u64,
     pub hits: u64,
 }
 
 #[repr(C)]
-#[derive(Drop)]
+#[derive(Clone, Copy)]
 pub struct WriteAnswer {
     pub result: u64,
     pub length: u64,
 }
 
 #[repr(C)]
-#[derive(Drop)]
+#[derive(Clone, Copy)]
 pub struct ApplyAnswer {
     pub result: u64,
     pub calls: u64,
 }
 
 #[repr(C)]
-#[derive(Drop)]
+#[derive(Clone, Copy)]
 pub struct LookupAnswer {
     pub result: u64,
     pub found: u64,

@@ -1,4 +1,6 @@
 // Words moved, cleared and exchanged inside a lent slice, in place.
+#![tactic(auto)]
+
 ghost use Rattle.std.specs.Prelude.{◌≡◌, ◌+◌, ◌≤◌, length, take, drop, replicate};
 ghost use Rattle.moves.specs.Over.{over, taken_out, gapped, reversed, rotated};
 

@@ -19,3 +19,4 @@
 // `f64::is_finite`, `==` of `isize`, `filter` and `retain`.
 //
 // Left out: `Atom::new`'s guess of an element; `counter`, `atf`, `modification`, `database_reference`; lookup, which differs on purpose.
+#![tactic(auto)]

@@ -1,4 +1,6 @@
 // What the program `find` does between its input and its text (document 01, "Serial lookup and program").
+#![tactic(auto)]
+
 ghost use Rattle.std.specs.Prelude.{◌≡◌, ◌&&◌, ◌++◌, ◌+◌, ◌*◌, ◌%◌, ◌≤◌, ◌<◌, length, leb, eqb};
 ghost use Rattle.machine.specs.Answer.{refused};
 ghost use Rattle.machine.specs.Find.{hits_of};

@@ -1,5 +1,7 @@
 // PDB lines in (change request §9): one pass over the text decides whether it is one of the writer's, a second one whether its records fit, and
 // only then the store is opened and filled.
+#![tactic(auto)]
+
 ghost use Rattle.std.specs.Prelude.{◌≡◌, length};
 ghost use Rattle.machine.specs.Answer.{opened_numbers};
 ghost use Rattle.machine.specs.Read.{read_run};

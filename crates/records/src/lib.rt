@@ -1,4 +1,6 @@
 // One record of a store (document 01, "Store"): whether its twelve words are good, and an atom read out.
+#![tactic(auto)]
+
 ghost use Rattle.std.specs.Prelude.{◌≡◌, zero, ◌+◌, ◌-◌, ◌*◌, ◌≤◌, length, take, drop, replicate};
 ghost use Rattle.machine.specs.Lists.{all, same};
 ghost use Rattle.machine.specs.Record.{kind, finite, fields_of, good_record, read_out};

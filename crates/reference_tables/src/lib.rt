@@ -1,5 +1,7 @@
 // The names of amino acids and of their backbones' atoms (reference_tables.rs), packed: "its bytes from the highest byte
 // down, then zero bytes".
+#![tactic(auto)]
+
 ghost use Rattle.std.specs.Prelude.{◌≡◌, length};
 ghost use Rattle.machine.specs.Query.{member, tables};
 

@@ -1,4 +1,6 @@
 // What the program `find` answers to inputs made here: each refusal that a file can meet, and two of document 01's cases.
+#![tactic(auto)]
+
 ghost use Rattle.std.specs.Prelude.{◌≡◌, ◌<◌, length};
 
 // Document 01's store S, the tree "Not Element 7", and the word index where the tree starts.

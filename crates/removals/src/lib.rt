@@ -1,4 +1,6 @@
 // Removals in place from a store that is known to be good (document 01, "Edits"): by position, and of the first by id.
+#![tactic(auto)]
+
 ghost use Rattle.std.specs.Prelude.{◌≡◌, ◌+◌, ◌≤◌, length};
 ghost use Rattle.machine.specs.Answer.{edited_numbers};
 ghost use Rattle.machine.specs.Edit.{step_by};

@@ -1,4 +1,6 @@
 // Recorded lists of edits, run again: standard input holds cases made by `oracle/record`, and the summary says how many ended as recorded.
+#![tactic(auto)]
+
 ghost use Rattle.std.specs.Prelude.{◌≡◌, ◌≤◌, length, replicate};
 ghost use Rattle.machine.specs.Lists as Lists;
 ghost use Rattle.replay.specs.Replay.{as_recorded_lem, Sized};
@@ -62,7 +64,7 @@ fn accepted_in(answers: &[u64]) -> u64
 }
 
 // A case's words, its calls, those accepted, and whether it ended as recorded.
-#[derive(Drop)]
+#[derive(Clone, Copy)]
 enum Replayed {
     Case(usize, u64, u64, bool),
     Malformed,
@@ -97,7 +99,7 @@ fn replay_case(case: &[u64]) -> Replayed
 
 // ---- all cases
 
-#[derive(Drop)]
+#[derive(Clone, Copy)]
 struct Summary {
     cases: u64,
     calls: u64,

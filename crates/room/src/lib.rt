@@ -1,4 +1,6 @@
 // PDB lines in (change request §9): whether the records of a text fit into a store, known before the store is touched.
+#![tactic(auto)]
+
 ghost use Rattle.std.specs.Prelude.{◌≡◌, true, false, [], ◌-◌, ◌/◌, ◌≤◌, ◌<◌, min, length, get_or, leb};
 ghost use Rattle.machine.specs.LinesIn.{atom_in, lines_in};
 ghost use Rattle.lines.specs.Numbered.{line_count_in, line_at, atoms_back};

@@ -1,4 +1,6 @@
 // f64 values, given by their bits, rounded to a whole number of units, and the f64 values nearest to such numbers.
+#![tactic(auto)]
+
 ghost use Rattle.std.specs.Prelude.{◌≡◌, true, ◌^◌, ◌≤◌, ◌<◌, min};
 ghost use Rattle.std.specs.Float.{binary64};
 ghost use Rattle.std.specs.Float.Ieee.{round, of_bits, to_bits};

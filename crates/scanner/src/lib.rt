@@ -1,4 +1,6 @@
 // PDB lines in (change request §9): what a line is read as, whether it is one of the writer's, and what an atom lacks beside another.
+#![tactic(auto)]
+
 ghost use Rattle.std.specs.Prelude.{◌≡◌, ◌&&◌, cond, eqb, [], ◌∷◌, ◌+◌, ◌*◌, ◌≤◌, ◌<◌, length};
 ghost use Rattle.std.specs.Float.{binary64};
 ghost use Rattle.std.specs.Float.Ieee.{round, to_bits};
@@ -44,7 +46,7 @@ fn figures(text: &[u8]) -> u64
 }
 
 // A number's digits, and whether a minus stands among its bytes.
-#[derive(Drop)]
+#[derive(Clone, Copy)]
 struct Number {
     minus: bool,
     size: u64,

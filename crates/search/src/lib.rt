@@ -1,4 +1,6 @@
 // Queries, after pdbtbx's search.rs (document 01, "Trees and find"): a tree's nodes, its check, and its value at a place.
+#![tactic(auto)]
+
 ghost use Rattle.std.specs.Prelude.{◌≡◌, cond, ℕ, ◌%◌, ◌≤◌, ◌<◌, length};
 ghost use Rattle.machine.specs.Kleene as Kleene;
 ghost use Rattle.machine.specs.Query as Query;
@@ -14,7 +16,7 @@ ghost use Rattle.search.specs.declared.CheckedTree.TheVariants.{Good};
 use elements::{Element, MaybeElement};
 use machine::{Ops, Record, RecordNumbers, Refusal, Term, Tri};
 
-#[derive(Drop)]
+#[derive(Clone, Copy)]
 pub enum CheckedTree {
     Good,
     Refused(Refusal),
@@ -23,7 +25,7 @@ pub enum CheckedTree {
 // ---- nodes
 
 // What sort of node a code has, or that it has none.
-#[derive(Drop)]
+#[derive(Clone, Copy)]
 enum Sort {
     Single,
     Binary(Ops),
@@ -108,7 +110,7 @@ fn good_parameters(code: u64, p: u64, q: u64) -> bool
 
 // ---- the check of a tree
 
-#[derive(Drop)]
+#[derive(Clone, Copy)]
 enum MaybeDepth {
     Is(usize),
     Refused,
@@ -260,7 +262,7 @@ pub fn topmost_kind(tree: &[u64]) -> u64
 // ---- the value of a tree
 
 // An operand's value, and the word at which its nodes start.
-#[derive(Drop)]
+#[derive(Clone, Copy)]
 struct Part {
     value: Tri,
     start: usize,

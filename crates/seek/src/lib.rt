@@ -1,4 +1,6 @@
 // Where records stand in a store that is known to be good. A record's number is its word index / 12.
+#![tactic(auto)]
+
 ghost use Rattle.std.specs.Prelude.{◌≡◌, ◌+◌, ◌*◌, ◌≤◌, length};
 ghost use Rattle.machine.specs.Store.{records};
 ghost use Rattle.seek.specs.Seek.{Good, Within, held, records_in, descendants, child_start, child_span, atom_records, part_of, span, start_of, span_of, followed_of, five_numbers};
@@ -6,14 +8,14 @@ ghost use Rattle.seek.specs.Seek.{Good, Within, held, records_in, descendants, c
 use machine::{Record, RecordNumbers};
 
 // The number of a record, and the number after that of its last descendant.
-#[derive(Drop)]
+#[derive(Clone, Copy)]
 pub enum Span {
     At(usize, usize),
     Missing,
 }
 
 // The records below a position: their numbers from `from` up to `end`, and the `depth` records above them, whose numbers are the first of `path`.
-#[derive(Drop)]
+#[derive(Clone, Copy)]
 pub struct Part {
     pub from: usize,
     pub end: usize,
@@ -21,14 +23,14 @@ pub struct Part {
     pub path: RecordNumbers,
 }
 
-#[derive(Drop)]
+#[derive(Clone, Copy)]
 pub enum Followed {
     To(Part),
     Missing,
 }
 
 // The number of a record.
-#[derive(Drop)]
+#[derive(Clone, Copy)]
 enum Start {
     At(usize),
     Missing,

@@ -1,4 +1,6 @@
 // Edits of one record's own words, in place, on a store that is known to be good.
+#![tactic(auto)]
+
 ghost use Rattle.std.specs.Prelude.{◌≡◌, ◌+◌, ◌*◌, ◌≤◌, ◌<◌, length, get_or, set};
 ghost use Rattle.machine.specs.Answer.{edited_numbers};
 ghost use Rattle.machine.specs.Edit.{step_by};

@@ -1,4 +1,6 @@
 // The store (document 01, "Store"): its layout check, and opening.
+#![tactic(auto)]
+
 ghost use Rattle.std.specs.Prelude.{◌≡◌, cond, ◌+◌, ◌*◌, ◌/◌, ◌%◌, ◌≤◌, length, eqb};
 ghost use Rattle.machine.specs.Lists.{all};
 ghost use Rattle.machine.specs.Answer.{opened_numbers};
@@ -8,7 +10,7 @@ ghost use Rattle.store.specs.Store.{checked_by, counted, trailing_atoms};
 use machine::{Opened, Record, Refusal};
 
 // How many atoms a store holds, or why its words are refused.
-#[derive(Drop)]
+#[derive(Clone, Copy)]
 pub enum Checked {
     Good(u64),
     Refused(Refusal),

@@ -1,5 +1,7 @@
 // Stored words (document 01, "Identifiers" and "Store"): whether a text as given is the text of a stored word, and whether a word is in the
 // stored form of an identifier.
+#![tactic(auto)]
+
 ghost use Rattle.std.specs.Prelude.{◌≡◌, ◌≤◌, ◌^◌};
 ghost use Rattle.machine.specs.Text.{chain_id, insertion_code, conformer_name, alternative_location, atom_name, matches, matches_optional, stored_by, absent_or, packed_text};
 ghost use Rattle.stored.specs.Word.{stored_byte, stored_text};

@@ -1,4 +1,6 @@
 // Terms, after pdbtbx's search.rs (document 01, "Trees and find"): Kleene's tables, and a term's value at its level and at a place.
+#![tactic(auto)]
+
 ghost use Rattle.std.specs.Prelude.{◌≡◌, cond, true, false, List, ℕ, ◌+◌, ◌*◌, ◌≤◌, ◌<◌, length, get_or, eqb};
 ghost use Rattle.std.proofs.Math.Option.{some};
 ghost use Rattle.machine.specs.Kleene as Kleene;

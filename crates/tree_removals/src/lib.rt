@@ -1,4 +1,6 @@
 // Atoms that a tree picks out of a model, to be removed (document 01, "Edits").
+#![tactic(auto)]
+
 ghost use Rattle.std.specs.Prelude.{◌≡◌, not, ◌+◌, ◌*◌, ◌≤◌, length, take, drop};
 ghost use Rattle.machine.specs.Answer.{edited_numbers};
 ghost use Rattle.machine.specs.Kleene.{is_true};

@@ -1,5 +1,7 @@
 // Find's pruned walk (document 01, "Trees and find"): one pass over the records below a start, which looks below none where the tree is false,
 // and evaluates it below none where it is true.
+#![tactic(auto)]
+
 ghost use Rattle.std.specs.Prelude.{◌≡◌, length, leb};
 ghost use Rattle.machine.specs.Answer.{ok, found_numbers};
 ghost use Rattle.machine.specs.Query.{read_tree};

@@ -1,4 +1,6 @@
 // PDB lines out (change request §1). One pass over the store decides whether every field fits and how long the text is, a second one writes it.
+#![tactic(auto)]
+
 ghost use Rattle.std.specs.Prelude.{◌≡◌, true, map, ◌+◌, ◌≤◌, length};
 ghost use Rattle.machine.specs.Answer.{written_numbers};
 ghost use Rattle.machine.specs.Lists.{all, concat_map};
@@ -14,7 +16,7 @@ use machine::{Record, Refusal, Written};
 use store::Checked;
 
 // How many bytes the text has, where every field fits into its columns.
-#[derive(Drop)]
+#[derive(Clone, Copy)]
 pub enum Measured {
     Bytes(u64),
     TooWide,

@@ -1,0 +1,19 @@
+-- `seek::child` meets its contract, by what `start_of` and `end_of` ensure. Assumes nothing.
+use Rattle.std.proofs.Common.{arith, rules}
+use Rattle.seek.proofs.Turns.{after-child, child-missing, child-is}
+use Rattle.seek.proofs.child.Goals as goal
+
+pub returns-in_default : goal.returns-in_default
+returns-in_default c = search (rules, child-missing)
+
+pub overflow_add-at : goal.overflow_add-at
+overflow_add-at c =
+    let s = c in
+    let m = after-child _ _ _ _ _ _ _ s.before.before.requires s.start_of_lem.ensures c.at-1.given.1 in
+    omega (arith, m.order)
+
+pub end_of-requires : goal.end_of-requires
+end_of-requires c = search (rules, after-child)
+
+pub returns : goal.returns
+returns c = search (rules, child-is)

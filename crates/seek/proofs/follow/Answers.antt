@@ -1,0 +1,31 @@
+-- `seek::follow` meets its contract. The loop keeps `Following`, and the indexes left fall. Assumes nothing.
+use Rattle.std.proofs.Common.{arith, rules}
+use Rattle.seek.proofs.Turns.{follow-begin, follow-whole, following-within, following-below, following-on, following-missing, following-end}
+use Rattle.seek.proofs.follow.Goals as goal
+
+pub returns-then-position-eq0 : goal.returns-then-position-eq0
+returns-then-position-eq0 c = search (rules, follow-whole)
+
+pub loop-level-init : goal.loop-level-init
+loop-level-init c = search (rules, follow-begin)
+
+pub start_of-requires : goal.start_of-requires
+start_of-requires c = search (rules, following-within)
+
+pub returns-in_default : goal.returns-in_default
+returns-in_default c = search (rules, following-missing)
+
+pub overflow_add-at : goal.overflow_add-at
+overflow_add-at c =
+    let s = c in
+    let m = following-below _ _ _ _ _ _ s.before.before.before.loop-level.invariant _ _ s.start_of_lem.ensures c.number-1.given.1 in
+    omega (arith, m.below)
+
+pub loop-level-preserved : goal.loop-level-preserved
+loop-level-preserved c = search (rules, following-on)
+
+pub end_of-end-requires : goal.end_of-end-requires
+end_of-end-requires c = search (rules, following-within)
+
+pub returns : goal.returns
+returns c = search (rules, following-end)

@@ -1,0 +1,22 @@
+-- `seek::start_of` meets its contract. The loop keeps `Sought`, and the records left fall. Assumes nothing.
+use Rattle.std.proofs.Common.{rules}
+use Rattle.seek.proofs.Turns.{sought-begin, sought-pass, sought-next, sought-low, sought-here, sought-out}
+use Rattle.seek.proofs.start_of.Goals as goal
+
+pub loop-at-init : goal.loop-at-init
+loop-at-init c = search (rules, sought-begin)
+
+pub returns-then-k-kind : goal.returns-then-k-kind
+returns-then-k-kind c = search (rules, sought-low)
+
+pub returns-then-left-eq0 : goal.returns-then-left-eq0
+returns-then-left-eq0 c = search (rules, sought-here)
+
+pub loop-at-preserved-then-k-kind-2 : goal.loop-at-preserved-then-k-kind-2
+loop-at-preserved-then-k-kind-2 c = search (rules, sought-next)
+
+pub loop-at-preserved : goal.loop-at-preserved
+loop-at-preserved c = search (rules, sought-pass)
+
+pub returns : goal.returns
+returns c = search (rules, sought-out)
