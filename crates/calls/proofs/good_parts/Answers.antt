@@ -15,8 +15,7 @@ returns-then-room-n c =
 
 pub loop-left-preserved : goal.loop-left-preserved
 loop-left-preserved c =
-    let loop = c.loop in
-    let inv = loop.invariant in
+    let inv = c.loop-left.invariant in
     (omega arith, parts_next _ _ _ _ _ inv.1 c.loop-left-test.true inv.0 c.if-at-words.false (omega arith) _ c.good_part.ensures c.if-good_part.true)
 
 pub returns-else-good_part : goal.returns-else-good_part

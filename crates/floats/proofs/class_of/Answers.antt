@@ -5,20 +5,20 @@ use Rattle.floats.proofs.class_of.Goals as goal
 
 pub returns-then-fraction-eq0 : goal.returns-then-fraction-eq0
 unfolding class_of class_of_fields
-returns-then-fraction-eq0 c = simp (c.in_default.keys1, eq-eqb _ _ c.if-fraction-eq0.true)
+returns-then-fraction-eq0 c = simp (c.in-2047.is, eq-eqb _ _ c.if-fraction-eq0.true)
 
 pub returns-else-fraction-eq0 : goal.returns-else-fraction-eq0
 unfolding class_of class_of_fields
-returns-else-fraction-eq0 c = simp (c.in_default.keys1, ne_eqb _ _ c.if-fraction-eq0.false)
+returns-else-fraction-eq0 c = simp (c.in-2047.is, ne_eqb _ _ c.if-fraction-eq0.false)
 
 pub returns-then-fraction-eq0-2 : goal.returns-then-fraction-eq0-2
 unfolding class_of class_of_fields
-returns-then-fraction-eq0-2 c = simp (c.in_default.keys2, eq-eqb _ _ c.if-fraction-eq0-2.true)
+returns-then-fraction-eq0-2 c = simp (c.in-0.is, eq-eqb _ _ c.if-fraction-eq0-2.true)
 
 pub returns-else-fraction-eq0-2 : goal.returns-else-fraction-eq0-2
 unfolding class_of class_of_fields
-returns-else-fraction-eq0-2 c = simp (c.in_default.keys2, ne_eqb _ _ c.if-fraction-eq0-2.false)
+returns-else-fraction-eq0-2 c = simp (c.in-0.is, ne_eqb _ _ c.if-fraction-eq0-2.false)
 
 pub returns-in_default : goal.returns-in_default
 unfolding class_of class_of_fields
-returns-in_default c = let r = c.in_default.rest in simp (ne_eqb _ _ r.0.1, ne_eqb _ _ r.1)
+returns-in_default c = let r = c.in_default.in_default-own.rest in simp (ne_eqb _ _ r.0.1, ne_eqb _ _ r.1)

@@ -1,13 +1,15 @@
 -- `floats::close` meets its contract: of a difference below zero the negation is compared, of any other the difference itself. Assumes nothing.
-use Rattle.std.proofs.Common.{Float, arith, binary64, down, down_pos, false, fin, inf, lt, lt-ltb, ltb-false, ltb-true, nan, neg, negsuc, of_bits, pos, refl, sub, sym, true, up, zero-mul, ◌*◌, ◌+◌, ◌<◌, ◌^◌, ◌∙◌, ◌≡◌, ◌≤◌}
+use Rattle.std.proofs.Common.{Float, arith, false, lt-ltb, ltb-false, ltb-true, negsuc, pos, refl, sym, true, zero-mul, ◌*◌, ◌+◌, ◌<◌, ◌^◌, ◌∙◌, ◌≡◌, ◌≤◌}
+use lib.Ieee.{nan, inf, fin, binary64, of_bits, sub, neg, lt, up, down}
+use lib.Ieee.Fits.{down_pos}
 use Rattle.machine.specs.Query.{drop_sign, close}
 use Rattle.floats.proofs.close.Goals as goal
 
-nought : Float
+abbrev nought : Float
 nought = fin false 0 (pos 0)
--- 2 ^ -52
 
-bound : Float
+-- 2 ^ -52
+abbrev bound : Float
 bound = fin false 1 (negsuc 51)
 
 below : (d : Float) → lt d nought ≡ true → lt (neg d) bound ≡ lt (drop_sign d) bound

@@ -1,5 +1,7 @@
 -- `floats::float_of` meets its contract: a pattern above the infinity's, sign dropped, is a NaN's (`nan_bits_above`). Assumes nothing.
-use Rattle.std.proofs.Common.{Bool, Float, T, binary64, div, fin, inf, is_nan, le-ltb, lt-ltb, nan, nan_bits_above, nan_bits_is, not, of_bits, refl, subst, sym, true, ◌∙◌, ◌≡◌}
+use Rattle.std.proofs.Common.{Bool, Float, T, le-ltb, lt-ltb, not, refl, subst, sym, true, ◌∙◌, ◌≡◌}
+use lib.Ieee.{nan, inf, fin, is_nan, of_bits, div, binary64}
+use lib.Ieee.Bits.{nan_bits_is, nan_bits_above}
 use Rattle.floats.proofs.float_of.Goals as goal
 
 only_nan : (x : Float) → is_nan x ≡ true → nan ≡ x

@@ -1,7 +1,9 @@
 -- `floats::int_of` meets its contract: of bits from 2 ^ 63 on, -1 less their complement is the number. Assumes nothing.
-use Rattle.std.proofs.Common.{SFits, ap, arith, negsuc, pos, refl, sfits_to_z, subst, suc, sym, to_z, to_z-neg, to_z-of_z, to_z_pos, w64, zero, zero-add, ℕ, ℤ, ◌-ℤ◌, ◌-◌, ◌<◌, ◌^◌, ◌∙◌, ◌≡◌, ◌≤◌}
+use Rattle.std.proofs.Common.{SFits, ap, arith, negsuc, pos, refl, subst, suc, sym, to_z, to_z-of_z, w64, zero, zero-add, ℕ, ℤ, ◌-ℤ◌, ◌-◌, ◌<◌, ◌^◌, ◌∙◌, ◌≡◌, ◌≤◌}
+use mir.Facts.{to_z_pos, to_z-neg, sfits_to_z}
 use Rattle.floats.proofs.int_of.Goals as goal
 
+-- -1 - n
 down : (n : ℕ) → negsuc 0 -ℤ pos n ≡ negsuc n
 down zero = refl
 down (suc k) = ap (λ (j : ℕ). negsuc (suc j)) (zero-add k)
@@ -18,6 +20,4 @@ overflow_sub-result-else-bits-lt9223372036854775808 c =
     subst (SFits w64) (sym (value c.args.bits c.if-bits-lt9223372036854775808.false c.ranges.bits.fits)) (sfits_to_z c.ranges.bits)
 
 pub returns-else-bits-lt9223372036854775808 : goal.returns-else-bits-lt9223372036854775808
-returns-else-bits-lt9223372036854775808 c = to_z-of_z (sub-result-2 c) ∙ value c.args.bits c.if-bits-lt9223372036854775808.false c.ranges.bits.fits
-
--- -1 - n
+returns-else-bits-lt9223372036854775808 c = to_z-of_z (overflow_sub-result-else-bits-lt9223372036854775808 c) ∙ value c.args.bits c.if-bits-lt9223372036854775808.false c.ranges.bits.fits

@@ -8,8 +8,7 @@ returns-in_default c = search (rules, child-missing)
 
 pub overflow_add-at : goal.overflow_add-at
 overflow_add-at c =
-    let s = c in
-    let m = after-child _ _ _ _ _ _ _ s.before.before.requires s.start_of_lem.ensures c.at-1.given.1 in
+    let m = after-child _ _ _ _ _ _ _ c.requires c.start_of.ensures c.in-At.is in
     omega (arith, m.order)
 
 pub end_of-requires : goal.end_of-requires

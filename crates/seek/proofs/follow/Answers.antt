@@ -17,8 +17,7 @@ returns-in_default c = search (rules, following-missing)
 
 pub overflow_add-at : goal.overflow_add-at
 overflow_add-at c =
-    let s = c in
-    let m = following-below _ _ _ _ _ _ s.before.before.before.loop-level.invariant _ _ s.start_of_lem.ensures c.number-1.given.1 in
+    let m = following-below _ _ _ _ _ _ c.loop-level.invariant _ _ c.start_of.ensures c.in-At.is in
     omega (arith, m.below)
 
 pub loop-level-preserved : goal.loop-level-preserved
