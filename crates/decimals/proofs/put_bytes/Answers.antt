@@ -1,0 +1,14 @@
+-- `decimals::put_bytes` meets its contract. The loop's invariant: the bytes passed stand over the text, which keeps its length. Assumes nothing.
+use Rattle.std.proofs.Common.{rules}
+use Rattle.moves.proofs.Turns.{write-start, write-turn}
+use Rattle.decimals.proofs.Laws.{bytes-end}
+use Rattle.decimals.proofs.put_bytes.Goals as goal
+
+pub loop-written-init : goal.loop-written-init
+loop-written-init c = search (rules, write-start)
+
+pub loop-written-preserved : goal.loop-written-preserved
+loop-written-preserved c = search (rules, write-turn)
+
+pub returns : goal.returns
+returns c = search (rules, bytes-end)
