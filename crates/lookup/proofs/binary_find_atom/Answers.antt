@@ -40,7 +40,7 @@ returns-in_default-first_in-3 c =
     c.requires
     _ c.record_count-count.ensures
     (search rules)
-    _ c.end_of_lem.ensures
+    _ c.end_of-end.ensures
     _ c.first_in.ensures _ _ c.in-At.is
     _ c.first_in-2.ensures _ _ c.in-At-first_in.is
     _ c.first_in-3.ensures _ _ c.in-At-first_in-2.is
@@ -53,7 +53,7 @@ returns c =
     c.requires
     _ c.record_count-count.ensures
     (search rules)
-    _ c.end_of_lem.ensures
+    _ c.end_of-end.ensures
     _ c.first_in.ensures _ _ c.in-At.is
     _ c.first_in-2.ensures _ _ c.in-At-first_in.is
     _ c.first_in-3.ensures _ _ c.in-At-first_in-2.is

@@ -1,0 +1,22 @@
+-- `additions::add_prepared` meets its contract: each return is a law's. Assumes nothing.
+use Rattle.std.proofs.Common.{rules, sym, ◌∙◌}
+use Rattle.additions.proofs.Laws.{atom-nowhere, atom-unnamed, atom-bad, atom-ready}
+use Rattle.seek.proofs.Laws.{at-span}
+use Rattle.additions.proofs.add_prepared.Goals as goal
+
+pub returns-in_default : goal.returns-in_default
+returns-in_default c = search (rules, atom-nowhere)
+
+pub put_atom-requires : goal.put_atom-requires
+put_atom-requires c =
+    (c.requires.good, (c.requires.valid, (at-span _ _ _ (sym c.model_span.ensures ∙ c.in-At.is), sym c.good_values.ensures ∙ c.if-good_values.true)))
+
+pub returns-then-good_values : goal.returns-then-good_values
+returns-then-good_values c =
+    (c.put_atom.ensures.valid_2, atom-ready _ c.requires.good _ _ _ c.model_span.ensures _ _ c.in-At.is _ c.in-Ready.is c.put_atom.ensures.store_after)
+
+pub returns-else-good_values : goal.returns-else-good_values
+returns-else-good_values c = search (rules, atom-bad)
+
+pub returns-in-Refused : goal.returns-in-Refused
+returns-in-Refused c = search (rules, atom-unnamed)

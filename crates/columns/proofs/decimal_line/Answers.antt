@@ -1,0 +1,19 @@
+-- `columns::decimal_line` meets its contract. Assumes nothing.
+use Rattle.std.proofs.Common.{rules}
+use Rattle.columns.proofs.Parts.{parts-fit, line-parts}
+use Rattle.columns.proofs.decimal_line.Goals as goal
+
+pub put_name_columns-requires : goal.put_name_columns-requires
+put_name_columns-requires c = let f = parts-fit _ _ _ c.requires.1 in search (rules, f.name)
+
+pub put_place_columns-requires : goal.put_place_columns-requires
+put_place_columns-requires c = let f = parts-fit _ _ _ c.requires.1 in search (rules, f.place)
+
+pub put_decimals-requires : goal.put_decimals-requires
+put_decimals-requires c = let f = parts-fit _ _ _ c.requires.1 in search (rules, f.values)
+
+pub put_element_columns-requires : goal.put_element_columns-requires
+put_element_columns-requires c = let f = parts-fit _ _ _ c.requires.1 in search (rules, f.element)
+
+pub returns : goal.returns
+returns c = search (rules, line-parts)
