@@ -1,4 +1,3 @@
-
 use Rattle.std.proofs.Common.{arith, rules}
 use Rattle.columns.proofs.Words.{spell-start, spell-more, spell-turn, spell-end}
 use Rattle.columns.proofs.put_word.Goals as goal

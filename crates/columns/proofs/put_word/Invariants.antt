@@ -1,4 +1,3 @@
-
 use Rattle.columns.proofs.Words.{Spelling}
 use Rattle.columns.proofs.put_word.Given as goal
 

@@ -7,7 +7,7 @@ use Rattle.insertion.proofs.spot_of.Goals as goal
 pub returns-in_default : goal.returns-in_default
 returns-in_default c =
     let both =
-        no-chain _ _ _ _ _ _ c.requires.within _ c.chain_span.ensures c.in_default.is
+    no-chain _ _ _ _ _ _ c.requires.within _ c.chain_span.ensures c.in_default.is
     in
     record { result_value = both.0; lands = both.1 }
 
@@ -17,7 +17,7 @@ residue_span-residues-requires c = search (rules, spot-within)
 pub returns-in_default-residues : goal.returns-in_default-residues
 returns-in_default-residues c =
     let both =
-        no-residue _ _ _ _ _ _ c.requires.within _ c.chain_span.ensures _ _ c.in-At.is _ c.residue_span-residues.ensures c.in_default-residues.is
+    no-residue _ _ _ _ _ _ c.requires.within _ c.chain_span.ensures _ _ c.in-At.is _ c.residue_span-residues.ensures c.in_default-residues.is
     in
     record { result_value = both.0; lands = both.1 }
 
@@ -30,16 +30,15 @@ conformer_span-conformers-requires c =
 pub returns-in_default-conformers : goal.returns-in_default-conformers
 returns-in_default-conformers c =
     let both =
-        no-conformer _ _ _ _ _ _ c.requires.within _ c.chain_span.ensures _ _ c.in-At.is _ c.residue_span-residues.ensures _ _ c.in-At-residues.is _
-        c.conformer_span-conformers.ensures c.in_default-conformers.is
+    no-conformer _ _ _ _ _ _ c.requires.within _ c.chain_span.ensures _ _ c.in-At.is _ c.residue_span-residues.ensures _ _ c.in-At-residues.is _
+    c.conformer_span-conformers.ensures c.in_default-conformers.is
     in
     record { result_value = both.0; lands = both.1 }
 
 pub returns : goal.returns
 returns c =
     let both =
-        all-stand _ _ _ _ _ _ c.requires.within _ c.chain_span.ensures _ _ c.in-At.is _ c.residue_span-residues.ensures _ _ c.in-At-residues.is _
-        c.conformer_span-conformers.ensures _ _ c.in-At-conformers.is
-    
+    all-stand _ _ _ _ _ _ c.requires.within _ c.chain_span.ensures _ _ c.in-At.is _ c.residue_span-residues.ensures _ _ c.in-At-residues.is _
+    c.conformer_span-conformers.ensures _ _ c.in-At-conformers.is
     in
     record { result_value = both.0; lands = both.1 }

@@ -5,6 +5,7 @@ use Rattle.machine.specs.Record.{read_out}
 use Rattle.machine.specs.Query.{window, term_value}
 use Rattle.terms.specs.Levels.{at_atom}
 use Rattle.terms.proofs.Terms.{cases, no-float}
+use borrow.Enum.Refused.{opened}
 use Rattle.terms.proofs.matches_float.Goals as goal
 
 pub returns-in-BFactor : goal.returns-in-BFactor
@@ -25,4 +26,4 @@ returns-in-OccupancyRange c a e q names = simp (c.decided-in-OccupancyRange.ensu
 
 pub returns-in_default : goal.returns-in_default
 unfolding window
-returns-in_default c a e q names = no-float names (at_atom (some a)) (cases 0 15 ++ cases 19 3) c.args.t refl c.in_default.is q
+returns-in_default c a e q names = no-float names (at_atom (some a)) (cases 0 15 ++ cases 19 3) c.args.t refl (opened c.in_default.in_default-own.keys5) q

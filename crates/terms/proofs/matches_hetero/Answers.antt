@@ -5,6 +5,7 @@ use Rattle.machine.specs.Record.{Atom, read_out}
 use Rattle.machine.specs.Query.{term_value}
 use Rattle.machine.specs.declared.AtomRec.{AtomRec}
 use Rattle.terms.proofs.Terms.{cases, by_less}
+use borrow.Enum.Refused.{opened}
 use Rattle.terms.proofs.matches_hetero.Goals as goal
 
 -- what the code tested of the atom as it was read out
@@ -24,7 +25,7 @@ unfolding read_out term_value
 returns-in-Hetero c a e q others = simp (c.in-Hetero.is, hetero-is a _ true e c.if-atom.true)
 
 pub returns-in_default : goal.returns-in_default
-returns-in_default c a e q others = absurd (false≢true (sym (by_less 3 (cases 0 19) c.args.t c.in_default.is refl) ∙ q))
+returns-in_default c a e q others = absurd (false≢true (sym (by_less 3 (cases 0 19) c.args.t (opened c.in_default.in_default-own.keys4) refl) ∙ q))
 
 pub returns-in-Backbone-t : goal.returns-in-Backbone-t
 unfolding read_out term_value
@@ -39,4 +40,4 @@ unfolding read_out term_value
 returns-in-Hetero-t c a e q others = simp (c.in-Hetero-t.is, hetero-is a _ false e c.if-atom.false)
 
 pub returns-in_default-t : goal.returns-in_default-t
-returns-in_default-t c a e q others = absurd (false≢true (sym (by_less 3 (cases 0 19) c.args.t c.in_default-t.is refl) ∙ q))
+returns-in_default-t c a e q others = absurd (false≢true (sym (by_less 3 (cases 0 19) c.args.t (opened c.in_default-t.in_default-t-own.keys4) refl) ∙ q))

@@ -4,6 +4,7 @@ use mathlib.Core.Option.{some}
 use Rattle.machine.specs.Query.{window, term_value}
 use Rattle.terms.specs.Levels.{at_chain}
 use Rattle.terms.proofs.Terms.{cases, elsewhere}
+use borrow.Enum.Refused.{opened}
 use Rattle.terms.proofs.optional_matches_chain.Goals as goal
 
 pub returns-in-ChainId : goal.returns-in-ChainId
@@ -16,4 +17,4 @@ returns-in-ChainIdRange c names = simp (c.decided-in-ChainIdRange.ensures, c.bet
 
 pub returns-in_default : goal.returns-in_default
 unfolding window
-returns-in_default c names = elsewhere names 2 (at_chain (some (record { id = c.args.id }))) (cases 0 2 ++ cases 4 18) c.args.t refl c.in_default.is
+returns-in_default c names = elsewhere names 2 (at_chain (some (record { id = c.args.id }))) (cases 0 2 ++ cases 4 18) c.args.t refl (opened c.in_default.in_default-own.keys3)

@@ -4,6 +4,7 @@ use mathlib.Core.Option.{some}
 use Rattle.machine.specs.Query.{window, term_value}
 use Rattle.terms.specs.Levels.{at_conformer}
 use Rattle.terms.proofs.Terms.{cases, elsewhere}
+use borrow.Enum.Refused.{opened}
 use Rattle.terms.proofs.optional_matches_conformer.Goals as goal
 
 pub returns-in-ConformerName : goal.returns-in-ConformerName
@@ -30,4 +31,4 @@ pub returns-in_default : goal.returns-in_default
 unfolding window
 returns-in_default c others =
     let a = c.args in
-    elsewhere (record { residues = a.residues.now; atoms = others }) 4 (at_conformer (some (record { name = a.name; location = a.location }))) (cases 0 8 ++ (cases 11 8 ++ cases 21 1)) a.t refl c.in_default.is
+    elsewhere (record { residues = a.residues.now; atoms = others }) 4 (at_conformer (some (record { name = a.name; location = a.location }))) (cases 0 8 ++ (cases 11 8 ++ cases 21 1)) a.t refl (opened c.in_default.in_default-own.keys6)

@@ -4,6 +4,7 @@ use mathlib.Core.Option.{some}
 use Rattle.machine.specs.Query.{window, term_value}
 use Rattle.terms.specs.Levels.{at_model}
 use Rattle.terms.proofs.Terms.{cases, elsewhere}
+use borrow.Enum.Refused.{opened}
 use Rattle.terms.proofs.optional_matches_model.Goals as goal
 
 pub returns-in-ModelSerialNumber : goal.returns-in-ModelSerialNumber
@@ -16,4 +17,4 @@ returns-in-ModelSerialNumberRange c names = simp (c.decided-in-ModelSerialNumber
 
 pub returns-in_default : goal.returns-in_default
 unfolding window
-returns-in_default c names = elsewhere names 1 (at_model (some (record { serial = c.args.serial }))) (cases 2 20) c.args.t refl c.in_default.is
+returns-in_default c names = elsewhere names 1 (at_model (some (record { serial = c.args.serial }))) (cases 2 20) c.args.t refl (opened c.in_default.in_default-own.keys3)
