@@ -9,11 +9,16 @@ returns-in_default c = search (rules, atom-nowhere)
 
 pub put_atom-requires : goal.put_atom-requires
 put_atom-requires c =
-    (c.requires.good, (c.requires.valid, (at-span _ _ _ (sym c.model_span.ensures ∙ c.in-At.is), sym c.good_values.ensures ∙ c.if-good_values.true)))
+    record {
+      good = c.requires.good;
+      valid = c.requires.valid;
+      store_value = at-span _ _ _ (sym c.model_span.ensures ∙ c.in-At.is);
+      value = sym c.good_values.ensures ∙ c.if-good_values.true;
+    }
 
 pub returns-then-good_values : goal.returns-then-good_values
 returns-then-good_values c =
-    (c.put_atom.ensures.valid_2, atom-ready _ c.requires.good _ _ _ c.model_span.ensures _ _ c.in-At.is _ c.in-Ready.is c.put_atom.ensures.store_after)
+    record { valid_2 = c.put_atom.ensures.valid_2; store_after = atom-ready _ c.requires.good _ _ _ c.model_span.ensures _ _ c.in-At.is _ c.in-Ready.is c.put_atom.ensures.store_after }
 
 pub returns-else-good_values : goal.returns-else-good_values
 returns-else-good_values c = search (rules, atom-bad)

@@ -5,12 +5,12 @@ use Rattle.additions.proofs.put_records.Goals as goal
 
 pub write_over-requires : goal.write_over-requires
 write_over-requires c =
-    let l = c.insert_gap.auto.0 in
+    let l = c.insert_gap.auto.s in
     simp length-set (omega arith)
 
 pub shape_of-store : goal.shape_of-store
 shape_of-store c =
-    c.write_over.auto.0 ∙ simp length-set c.insert_gap.auto.0
+    c.write_over.auto.s ∙ simp length-set c.insert_gap.auto.s
 
 pub returns : goal.returns
 returns c = search (rules, put_is)
