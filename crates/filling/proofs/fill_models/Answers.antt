@@ -21,7 +21,13 @@ add_entry-requires c =
     let f = c.loop-n.invariant in
     let t = c.loop-n-test.true in
     let e = c.model_end-end.ensures in
-    (lines-some _ _ _ _ _ f t _ e, (lines-good _ _ _ _ _ f t _ e, (f.good, (f.number, lines-room _ _ _ _ _ f t _ e))))
+    record {
+      lines_nonzero = lines-some _ _ _ _ _ f t _ e;
+      lines_value = lines-good _ _ _ _ _ f t _ e;
+      good = f.good;
+      store_len = f.number;
+      lines_len_bound = lines-room _ _ _ _ _ f t _ e;
+    }
 
 pub overflow_add-n-in-loop-n : goal.overflow_add-n-in-loop-n
 overflow_add-n-in-loop-n c =
