@@ -4,7 +4,7 @@ use Rattle.walk.proofs.Laws.{least, most, walk-entered, walk-five, walk_inside, 
 use Rattle.walk.proofs.find_in.Goals as goal
 
 pub loop-n-init : goal.loop-n-init
-loop-n-init c = rw c.Numbers-of.ensures (write-start _ _ _ _ _ _ c.requires, refl)
+loop-n-init c = rw c.numbers_of-at.ensures (write-start _ _ _ _ _ _ c.requires, refl)
 
 pub overflow_mul-kind : goal.overflow_mul-kind
 overflow_mul-kind c = omega arith
@@ -77,4 +77,4 @@ pub shape_of-out : goal.shape_of-out
 shape_of-out c = c.loop-n.invariant.0.long
 
 pub returns : goal.returns
-returns c = rw c.Numbers-of.ensures at (write-end _ _ _ _ _ _ _ _ _ _ _ _ _ _ c.loop-n.invariant.0 c.loop-n-test.false)
+returns c = rw c.numbers_of-at.ensures at (write-end _ _ _ _ _ _ _ _ _ _ _ _ _ _ c.loop-n.invariant.0 c.loop-n-test.false)

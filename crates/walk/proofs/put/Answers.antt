@@ -20,4 +20,4 @@ pub bounds-out-word-5 : goal.bounds-out-word-5
 bounds-out-word-5 c = simp length-set (omega arith)
 
 pub returns : goal.returns
-returns c = put-law c.args.out-1.now c.args.hit (five_numbers c.args.at.now) c.if-out-hit.false
+returns c = put-law c.args.out.now c.args.hit (five_numbers c.args.at.now) c.if-out-hit.false

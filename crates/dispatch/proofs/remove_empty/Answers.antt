@@ -1,0 +1,12 @@
+-- `dispatch::remove_empty` meets its contract. Assumes nothing.
+use Rattle.std.proofs.Common.{rules}
+use Rattle.calls.specs.Format.{rows}
+use Rattle.dispatch.proofs.Calls.{there, empty-call}
+use Rattle.dispatch.proofs.remove_empty.Goals as goal
+
+pub bounds-words-0 : goal.bounds-words-0
+unfolding rows
+bounds-words-0 c = search (rules, there)
+
+pub returns : goal.returns
+returns c = search (rules, empty-call)
