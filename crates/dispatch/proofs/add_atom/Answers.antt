@@ -18,18 +18,16 @@ part_end-location-requires c = search (rules, atom-fits₄)
 pub part_end-name-requires : goal.part_end-name-requires
 part_end-name-requires c = search (rules, atom-fits₅)
 
-pub add_prepared-requires : goal.add_prepared-requires
-add_prepared-requires c = (c.requires.good, c.requires.valid)
-
 pub returns : goal.returns
 returns c =
- (
-      c.add_prepared.ensures.valid_2,
-      atom-call c.args.words.now c.requires.words_value
+    record {
+      valid_2 = c.add_prepared.ensures.valid_2;
+      store_after =
+        atom-call c.args.words.now c.requires.words_value
           c.part_end-chain.result c.part_end-chain.ensures.0
           c.part_end-code.result c.part_end-code.ensures.0
           c.part_end-conformer.result c.part_end-conformer.ensures.0
           c.part_end-location.result c.part_end-location.ensures.0
-          c.args.store-1.now c.args.bytes.now c.part_end-name.result c.requires.narrowed c.part_end-name.ensures.0
-          c.values.result c.values.ensures _ c.prepare-prepared.ensures c.add_prepared.ensures.store_after,
-    )
+          c.args.store.now c.args.bytes.now c.part_end-name.result c.requires.narrowed c.part_end-name.ensures.0
+          c.values.result c.values.ensures _ c.prepare-prepared.ensures c.add_prepared.ensures.store_after;
+    }

@@ -1,7 +1,8 @@
 -- `dispatch::run_call` meets its contract. Assumes nothing.
-use Rattle.std.proofs.Common.{rules, ⊎_elim}
+use Rattle.std.proofs.Common.{rules, arith}
 use Rattle.dispatch.proofs.Texts.{read}
 use Rattle.dispatch.proofs.Calls.{at_code, of_code, codes-none, codes-join, codes-last}
+use Rattle.dispatch.proofs.run_call.Goals.{in_default-via-then-code-lt3, in_default-via-else-code-lt3+else-code-lt7}
 use Rattle.dispatch.proofs.run_call.Goals as goal
 
 pub add_model-requires : goal.add_model-requires
@@ -28,25 +29,17 @@ remove_empty-requires c = search (rules, at_code)
 pub set_element-requires : goal.set_element-requires
 set_element-requires c = search (rules, at_code)
 
-pub remove_at-requires : goal.remove_at-requires
-remove_at-requires c =
-    (search rules, (search rules, (c.in_default.false, search rules)))
-
-pub join-requires : goal.join-requires
-join-requires c =
+pub join-requires-clause-le_code : goal.join-requires-clause-le_code
+join-requires-clause-le_code c =
     let code = c.args.code in
     let known = read code c.args.words.now c.requires.words_value in
-    let later = c.in_default-1.in_default-1-own.rest in
+    let later = c.in_default-1.rest in
     let none = later.0 in (
-      search rules,
-      (
-        search rules,
-        (
-          ⊎_elim (λ w. absurd (codes-none code known.low w.taken none.0.0.0.0.0.0.1 c.requires.fact))
-              (λ w. codes-join code w.1.left none.0.0.0.0.0.1 none.0.0.0.0.1 none.0.0.0.1 none.0.0.1 none.0.1 none.1) c.in_default.branch,
-          codes-last code known.high later.1,
-        ),
-      ),
+      elim c.in_default.branch [
+        in_default-via-then-code-lt3 w ↦ absurd (codes-none code known.low (omega arith) none.0.0.0.0.0.0.1 c.requires.fact)
+        | in_default-via-else-code-lt3+else-code-lt7 w ↦ codes-join code (omega arith) none.0.0.0.0.0.1 none.0.0.0.0.1 none.0.0.0.1 none.0.0.1 none.0.1 none.1
+      ],
+      codes-last code known.high later.1,
     )
 
 pub returns-in-1 : goal.returns-in-1

@@ -1,0 +1,11 @@
+-- `structs::positions::remove_at` meets its contract. Assumes nothing.
+use Rattle.std.proofs.Common.{rules}
+use Rattle.store.proofs.Steps.{good}
+use Rattle.structs.proofs.Laws.{refused-by}
+use Rattle.structs.proofs.positions.remove_at.Goals as goal
+
+pub remove_at-requires : goal.remove_at-requires
+remove_at-requires c = search (rules, good)
+
+pub returns-in-Refused : goal.returns-in-Refused
+returns-in-Refused c = search (rules, refused-by)
