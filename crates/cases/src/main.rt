@@ -2,28 +2,28 @@
 #![tactic(auto)]
 
 use machine::{Edited, Found, NewAtom, Record};
+use std::io;
 use structs::{model, pdb};
 
-fn print_line(x: u64) {
-    io::print_decimal(1, x);
-    io::write_all(1, b"\n");
+fn print_line(rt: &impl Print, x: u64) -> io::Result<()> {
+    rt.println(x)
 }
 
-fn print_word(x: u64) {
-    io::print_decimal(1, x);
-    io::write_all(1, b" ");
+fn print_word(rt: &impl Print, x: u64) -> io::Result<()> {
+    rt.print(x)?;
+    rt.write_all(b" ")
 }
 
 // Result, found, removed.
-fn print_edit(edited: Edited) {
+fn print_edit(rt: &impl Print, edited: Edited) -> io::Result<()> {
     let e = answers::of_edited(edited);
-    print_word(e.result);
-    print_word(e.found);
-    print_line(e.removed);
+    print_word(rt, e.result)?;
+    print_word(rt, e.found)?;
+    print_line(rt, e.removed)
 }
 
 // Atom `N` to residue 7 of chain A, conformer ALA, in the first model.
-fn add(store: &mut [u64], flag: u64, code: &[u8], serial: u64) {
+fn add(rt: &impl Print, store: &mut [u64], flag: u64, code: &[u8], serial: u64) -> io::Result<()> {
     let values = NewAtom {
         serial: serial,
         x: 0,
@@ -35,49 +35,52 @@ fn add(store: &mut [u64], flag: u64, code: &[u8], serial: u64) {
         charge: 0,
         hetero: 0,
     };
-    print_edit(model::add_atom(store, 0, b"A", 7, flag, code, b"ALA", 0, b"", b"N", values));
+    let edited = model::add_atom(store, 0, b"A", 7, flag, code, b"ALA", 0, b"", b"N", values);
+    print_edit(rt, edited)
 }
 
 // Opens the store, and adds a model and an atom.
-fn case_9(store: &mut [u64]) {
+fn case_9(rt: &impl Print, store: &mut [u64]) -> io::Result<()> {
     pdb::open(store);
-    print_edit(pdb::add_model(store, 1));
-    add(store, 0, b"", 1);
+    print_edit(rt, pdb::add_model(store, 1))?;
+    add(rt, store, 0, b"", 1)
 }
 
 // The first three words of a record, if it is there.
-fn print_record(store: &[u64], record: usize) {
+fn print_record(rt: &impl Print, store: &[u64], record: usize) -> io::Result<()> {
     if record < 100 {
         let at = record * Record::WIDTH;
         if at + 2 < store.len() {
-            print_word(store[at]);
-            print_word(store[at + 1]);
-            print_line(store[at + 2]);
+            print_word(rt, store[at])?;
+            print_word(rt, store[at + 1])?;
+            print_line(rt, store[at + 2])?;
         }
     }
+    Ok(())
 }
 
-fn print_records(store: &[u64], count: usize) {
+fn print_records(rt: &impl Print, store: &[u64], count: usize) -> io::Result<()> {
     let mut record: usize = 0;
     while record < count {
-        print_record(store, record);
+        print_record(rt, store, record)?;
         record += 1;
     }
+    Ok(())
 }
 
-fn case_10(store: &mut [u64]) {
+fn case_10(rt: &impl Print, store: &mut [u64]) -> io::Result<()> {
     pdb::open(store);
-    print_edit(pdb::add_model(store, 1));
-    add(store, 1, b"a", 1);
-    add(store, 1, b"a", 2);
-    add(store, 1, b"A", 3);
-    print_records(store, 7);
+    print_edit(rt, pdb::add_model(store, 1))?;
+    add(rt, store, 1, b"a", 1)?;
+    add(rt, store, 1, b"a", 2)?;
+    add(rt, store, 1, b"A", 3)?;
+    print_records(rt, store, 7)
 }
 
 // How many atoms a run of find listed.
-fn print_count(found: Found) {
+fn print_count(rt: &impl Print, found: Found) -> io::Result<()> {
     let f = answers::of_found(found);
-    print_line(f.hits);
+    print_line(rt, f.hits)
 }
 
 // The edits that make store S: a model, atom `N` of element 7 and atom `XX` without one, each as its numbers and its texts.
@@ -97,7 +100,7 @@ fn edits_of_s() -> [u64; 54] {
 }
 
 // On store S from a start, A is Element 7 and B is ChainId `B`; the counts of A, B, "A and B", "A or B" and "not A".
-fn demand_3(start: &[u64]) {
+fn demand_3(rt: &impl Print, start: &[u64]) -> io::Result<()> {
     let list = edits_of_s();
     let mut store = [0u64; 73];
     let mut answers = [0u64; 9];
@@ -127,26 +130,26 @@ fn demand_3(start: &[u64]) {
     let in_both = f.both;
     let in_either = f.either;
     let in_opposite = f.opposite;
-    print_count(in_first);
-    print_count(in_second);
-    print_count(in_both);
-    print_count(in_either);
-    print_count(in_opposite);
+    print_count(rt, in_first)?;
+    print_count(rt, in_second)?;
+    print_count(rt, in_both)?;
+    print_count(rt, in_either)?;
+    print_count(rt, in_opposite)
 }
 
-fn main() {
+fn main(rt: HostRuntime) -> io::Result<()> {
     let mut enough = [0u64; 61];
-    io::write_all(1, b"case 9, 61 words\n");
-    case_9(&mut enough);
+    rt.write_all(b"case 9, 61 words\n")?;
+    case_9(&rt, &mut enough)?;
     let mut short = [0u64; 60];
-    io::write_all(1, b"case 9, 60 words\n");
-    case_9(&mut short);
+    rt.write_all(b"case 9, 60 words\n")?;
+    case_9(&rt, &mut short)?;
     let mut store = [0u64; 121];
-    io::write_all(1, b"case 10\n");
-    case_10(&mut store);
-    io::write_all(1, b"demand 3\n");
-    demand_3(&[]);
+    rt.write_all(b"case 10\n")?;
+    case_10(&rt, &mut store)?;
+    rt.write_all(b"demand 3\n")?;
+    demand_3(&rt, &[])?;
     let chain = [0, 0];
-    io::write_all(1, b"demand 3, from a chain\n");
-    demand_3(&chain);
+    rt.write_all(b"demand 3, from a chain\n")?;
+    demand_3(&rt, &chain)
 }

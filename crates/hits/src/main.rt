@@ -6,6 +6,7 @@ ghost use Rattle.hierarchy.specs.Hit.{model_of, chain_of, residue_of, conformer_
 
 use hierarchy::{ChainRec, ConformerRec, Hit, ModelRec, Named, ResidueRec};
 use machine::{AtomRec, NewAtom, RecordNumbers};
+use std::io;
 use structs::{model, pdb};
 
 // ---- a hit made and asked for one of its records
@@ -42,97 +43,101 @@ fn atom_of(store: &[u64], at: RecordNumbers) -> AtomRec
 
 // ---- what is printed
 
-fn print_number(name: &[u8], n: u64) {
-    io::write_all(1, name);
-    io::print_decimal(1, n);
+fn print_number(rt: &impl Print, name: &[u8], n: u64) -> io::Result<()> {
+    rt.write_all(name)?;
+    rt.print(n)
 }
 
 // The lowest byte of a word, if it isn't 0.
-fn print_byte(word: u64) {
+fn print_byte(rt: &impl Print, word: u64) -> io::Result<()> {
     let low = word % 256;
     if low != 0 {
         let byte = [low as u8];
-        io::write_all(1, &byte);
+        rt.write_all(&byte)?;
     }
+    Ok(())
 }
 
 // A packed text: its bytes from the highest down. A dash stands for 0, which is absent.
-fn print_text(name: &[u8], text: u64) {
-    io::write_all(1, name);
+fn print_text(rt: &impl Print, name: &[u8], text: u64) -> io::Result<()> {
+    rt.write_all(name)?;
     if text == 0 {
-        io::write_all(1, b"-");
+        rt.write_all(b"-")?;
     }
-    print_byte(text >> 56);
-    print_byte(text >> 48);
-    print_byte(text >> 40);
-    print_byte(text >> 32);
-    print_byte(text >> 24);
-    print_byte(text >> 16);
-    print_byte(text >> 8);
-    print_byte(text);
+    print_byte(rt, text >> 56)?;
+    print_byte(rt, text >> 48)?;
+    print_byte(rt, text >> 40)?;
+    print_byte(rt, text >> 32)?;
+    print_byte(rt, text >> 24)?;
+    print_byte(rt, text >> 16)?;
+    print_byte(rt, text >> 8)?;
+    print_byte(rt, text)
 }
 
 // A float that isn't negative, without its fraction, if that fits a word.
-fn print_whole(x: f64) {
+fn print_whole(rt: &impl Print, x: f64) -> io::Result<()> {
     if x > -1.0 {
         if x < 18446744073709551616.0 {
-            io::print_decimal(1, std::num::truncating_f64_to_u64(x));
+            rt.print(std::num::truncating_f64_to_u64(x))?;
         }
     }
+    Ok(())
 }
 
-fn print_signed(name: &[u8], x: f64) {
-    io::write_all(1, name);
+fn print_signed(rt: &impl Print, name: &[u8], x: f64) -> io::Result<()> {
+    rt.write_all(name)?;
     if x < 0.0 {
-        io::write_all(1, b"-");
-        print_whole(-x);
+        rt.write_all(b"-")?;
+        print_whole(rt, -x)
     } else {
-        print_whole(x);
+        print_whole(rt, x)
     }
 }
 
-fn print_residue(residue: ResidueRec) {
-    print_signed(b", residue ", std::num::nearest_i64_to_f64(residue.serial));
-    print_text(b" code ", residue.code);
+fn print_residue(rt: &impl Print, residue: ResidueRec) -> io::Result<()> {
+    print_signed(
+        rt,
+        b", residue ",
+        std::num::nearest_i64_to_f64(residue.serial),
+    )?;
+    print_text(rt, b" code ", residue.code)
 }
 
-fn print_conformer(conformer: ConformerRec) {
-    print_text(b", conformer ", conformer.name);
-    print_text(b" location ", conformer.location);
+fn print_conformer(rt: &impl Print, conformer: ConformerRec) -> io::Result<()> {
+    print_text(rt, b", conformer ", conformer.name)?;
+    print_text(rt, b" location ", conformer.location)
 }
 
 // Floats in thousandths.
-fn print_atom(atom: AtomRec) {
-    print_number(b"\natom ", atom.serial);
-    print_text(b" ", atom.name);
-    print_signed(b" at ", atom.x * 1000.0);
-    print_signed(b" ", atom.y * 1000.0);
-    print_signed(b" ", atom.z * 1000.0);
-    print_signed(b", occupancy ", atom.occupancy * 1000.0);
-    print_signed(b", b factor ", atom.b_factor * 1000.0);
-    print_number(b", element ", atom.element);
-    print_signed(b", charge ", std::num::nearest_i64_to_f64(atom.charge));
+fn print_atom(rt: &impl Print, atom: AtomRec) -> io::Result<()> {
+    print_number(rt, b"\natom ", atom.serial)?;
+    print_text(rt, b" ", atom.name)?;
+    print_signed(rt, b" at ", atom.x * 1000.0)?;
+    print_signed(rt, b" ", atom.y * 1000.0)?;
+    print_signed(rt, b" ", atom.z * 1000.0)?;
+    print_signed(rt, b", occupancy ", atom.occupancy * 1000.0)?;
+    print_signed(rt, b", b factor ", atom.b_factor * 1000.0)?;
+    print_number(rt, b", element ", atom.element)?;
+    print_signed(rt, b", charge ", std::num::nearest_i64_to_f64(atom.charge))?;
     if atom.hetero {
-        io::write_all(1, b", hetero");
+        rt.write_all(b", hetero")?;
     }
-    io::write_all(1, b"\n");
+    rt.write_all(b"\n")
 }
 
-fn print_hit(store: &[u64], at: RecordNumbers) {
-    print_number(b"model ", model_of(store, at).serial);
-    print_text(b", chain ", chain_of(store, at).id);
-    print_residue(residue_of(store, at));
-    print_conformer(conformer_of(store, at));
-    print_atom(atom_of(store, at));
+fn print_hit(rt: &impl Print, store: &[u64], at: RecordNumbers) -> io::Result<()> {
+    print_number(rt, b"model ", model_of(store, at).serial)?;
+    print_text(rt, b", chain ", chain_of(store, at).id)?;
+    print_residue(rt, residue_of(store, at))?;
+    print_conformer(rt, conformer_of(store, at))?;
+    print_atom(rt, atom_of(store, at))
 }
 
 // The i-th hit of an output.
-fn print_nth(store: &[u64], out: &[u64], i: u64) {
+fn print_nth(rt: &impl Print, store: &[u64], out: &[u64], i: u64) -> io::Result<()> {
     match hierarchy::nth(store, out, i) {
-        Named::At(at) => print_hit(store, at),
-        Named::Missing => {
-            io::write_all(1, b"no hit\n");
-        }
+        Named::At(at) => print_hit(rt, store, at),
+        Named::Missing => rt.write_all(b"no hit\n"),
     }
 }
 
@@ -192,23 +197,23 @@ fn build(store: &mut [u64]) {
 }
 
 // The hits of a tree, and what stands after them.
-fn search(store: &[u64], tree: &[u64]) {
+fn search(rt: &impl Print, store: &[u64], tree: &[u64]) -> io::Result<()> {
     let mut out = [0u64; 15];
     let found = answers::of_found(pdb::find(store, tree, &mut out));
-    print_number(b"hits ", found.hits);
-    io::write_all(1, b"\n");
-    print_nth(store, &out, 0);
-    print_nth(store, &out, 1);
-    print_nth(store, &out, 2);
+    print_number(rt, b"hits ", found.hits)?;
+    rt.write_all(b"\n")?;
+    print_nth(rt, store, &out, 0)?;
+    print_nth(rt, store, &out, 1)?;
+    print_nth(rt, store, &out, 2)
 }
 
-fn main() {
+fn main(rt: HostRuntime) -> io::Result<()> {
     let mut store = [0u64; 121];
     build(&mut store);
-    io::write_all(1, b"every atom: ");
+    rt.write_all(b"every atom: ")?;
     let every = [28u64, 0, 0];
-    search(&store, &every);
-    io::write_all(1, b"not nitrogen: ");
+    search(&rt, &store, &every)?;
+    rt.write_all(b"not nitrogen: ")?;
     let not_nitrogen = [15u64, 7, 0, 26, 0, 0];
-    search(&store, &not_nitrogen);
+    search(&rt, &store, &not_nitrogen)
 }

@@ -3,6 +3,8 @@
 
 ghost use Rattle.std.specs.Prelude.{◌≡◌, ◌<◌, length};
 
+use std::io;
+
 // Document 01's store S, the tree "Not Element 7", and the word index where the tree starts.
 fn case_2() -> [u64; 80]
     ensures { 80 ≡ length result }
@@ -53,44 +55,44 @@ fn changed(at: usize, word: u64) -> [u8; 640]
 }
 
 // A label, and what the program writes for an input.
-fn print(label: &[u8], input: &[u8]) {
+fn print(rt: &impl Print, label: &[u8], input: &[u8]) -> io::Result<()> {
     let mut text = [0u8; program::TEXT];
     let end = program::answer(input, &mut text);
-    io::write_all(1, label);
-    io::write_all(1, &text[..end]);
+    rt.write_all(label)?;
+    rt.write_all(&text[..end])
 }
 
 // Inputs that are zeros: their length alone tells.
-fn print_zeros() {
+fn print_zeros(rt: &impl Print) -> io::Result<()> {
     let zeros = [0u8; 65544];
-    print(b"no bytes: ", &zeros[..0]);
-    print(b"nine bytes: ", &zeros[..9]);
-    print(b"65,536 zeros: ", &zeros[..65536]);
-    print(b"65,544 zeros: ", &zeros);
+    print(rt, b"no bytes: ", &zeros[..0])?;
+    print(rt, b"nine bytes: ", &zeros[..9])?;
+    print(rt, b"65,536 zeros: ", &zeros[..65536])?;
+    print(rt, b"65,544 zeros: ", &zeros)
 }
 
 // The last word, at index 79, says where the tree starts.
-fn print_starts() {
-    print(b"start above its own index: ", &changed(79, 80));
+fn print_starts(rt: &impl Print) -> io::Result<()> {
+    print(rt, b"start above its own index: ", &changed(79, 80))?;
     // the store and a start right after it, which is its own index
-    print(b"start at its own index: ", &changed(73, 73)[0..592]);
-    print(b"start 0: ", &changed(79, 0));
+    print(rt, b"start at its own index: ", &changed(73, 73)[0..592])?;
+    print(rt, b"start 0: ", &changed(79, 0))
 }
 
-fn print_contents() {
-    print(b"a residue under a model: ", &changed(12, 3));
-    print(b"node code 29: ", &changed(76, 29));
-    print(b"And with one operand: ", &changed(76, 23));
+fn print_contents(rt: &impl Print) -> io::Result<()> {
+    print(rt, b"a residue under a model: ", &changed(12, 3))?;
+    print(rt, b"node code 29: ", &changed(76, 29))?;
+    print(rt, b"And with one operand: ", &changed(76, 23))
 }
 
-fn print_cases() {
-    print(b"case 1:\n", &changed(76, 73)[0..616]);
-    print(b"case 2:\n", &changed(79, 73));
+fn print_cases(rt: &impl Print) -> io::Result<()> {
+    print(rt, b"case 1:\n", &changed(76, 73)[0..616])?;
+    print(rt, b"case 2:\n", &changed(79, 73))
 }
 
-fn main() {
-    print_zeros();
-    print_starts();
-    print_contents();
-    print_cases();
+fn main(rt: HostRuntime) -> io::Result<()> {
+    print_zeros(&rt)?;
+    print_starts(&rt)?;
+    print_contents(&rt)?;
+    print_cases(&rt)
 }

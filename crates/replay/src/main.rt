@@ -5,6 +5,8 @@ ghost use Rattle.std.specs.Prelude.{◌≡◌, ◌≤◌, length, replicate};
 ghost use Rattle.machine.specs.Lists as Lists;
 ghost use Rattle.replay.specs.Replay.{as_recorded_lem, Sized};
 
+use std::io;
+
 // ---- a case
 
 fn same(a: &[u64], b: &[u64]) -> bool
@@ -144,18 +146,17 @@ fn replay(words: &[u64]) -> Summary
     }
 }
 
-fn print_line(name: &[u8], n: u64) {
-    io::write_all(1, name);
-    io::print_decimal(1, n);
-    io::write_all(1, b"\n");
+fn print_line(rt: &impl Print, name: &[u8], n: u64) -> io::Result<()> {
+    rt.write_all(name)?;
+    rt.println(n)
 }
 
-fn print_summary(summary: Summary) {
-    print_line(b"cases ", summary.cases);
-    print_line(b"calls ", summary.calls);
-    print_line(b"accepted ", summary.accepted);
-    print_line(b"as recorded ", summary.as_recorded);
-    print_line(b"words left ", summary.left);
+fn print_summary(rt: &impl Print, summary: Summary) -> io::Result<()> {
+    print_line(rt, b"cases ", summary.cases)?;
+    print_line(rt, b"calls ", summary.calls)?;
+    print_line(rt, b"accepted ", summary.accepted)?;
+    print_line(rt, b"as recorded ", summary.as_recorded)?;
+    print_line(rt, b"words left ", summary.left)
 }
 
 // Standard input as words.
@@ -168,8 +169,8 @@ fn replay_input(input: &[u8]) -> Summary
     replay(&words[..n])
 }
 
-fn main() {
+fn main(rt: HostRuntime) -> io::Result<()> {
     let mut input = [0u8; 409600];
-    let read = io::read_full(0, &mut input);
-    print_summary(replay_input(&input[..read]));
+    let read = input::read_full(&mut rt.stdin(), &mut input)?;
+    print_summary(&rt, replay_input(&input[..read]))
 }
