@@ -23,7 +23,7 @@ returns c =
     record {
       valid_2 = c.add_prepared.ensures.valid_2;
       store_after =
-        atom-call c.args.words.now c.requires.words_value
+          atom-call c.args.words.now c.requires.words_value
           c.part_end-chain.result c.part_end-chain.ensures.0
           c.part_end-code.result c.part_end-code.ensures.0
           c.part_end-conformer.result c.part_end-conformer.ensures.0

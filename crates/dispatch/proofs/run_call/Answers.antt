@@ -36,7 +36,7 @@ join-requires-clause-le_code c =
     let later = c.in_default-1.rest in
     let none = later.0 in (
       elim c.in_default.branch [
-        in_default-via-then-code-lt3 w ↦ absurd (codes-none code known.low (omega arith) none.0.0.0.0.0.0.1 c.requires.fact)
+        | in_default-via-then-code-lt3 w ↦ absurd (codes-none code known.low (omega arith) none.0.0.0.0.0.0.1 c.requires.fact)
         | in_default-via-else-code-lt3+else-code-lt7 w ↦ codes-join code (omega arith) none.0.0.0.0.0.1 none.0.0.0.0.1 none.0.0.0.1 none.0.0.1 none.0.1 none.1
       ],
       codes-last code known.high later.1,
