@@ -191,9 +191,9 @@ fn put_atom(
 ) -> Added
     requires good { Good store.old }
     requires valid { Valid cursor store.old }
-    requires store_value { span (model ∷ []) (held store.old) ≡ some (start, end) }
-    requires value { good_values (new_atom new) ≡ true }
-    ensures valid_2 { Valid result.cursor store.new }
+    requires span_held { span (model ∷ []) (held store.old) ≡ some (start, end) }
+    requires values_good { good_values (new_atom new) ≡ true }
+    ensures cursor_valid { Valid result.cursor store.new }
     ensures store_after { (edited_numbers result.edited, store.new)
         ≡ step_by store.old (add_prepared (length store.old) model (ok new)) }
 {
@@ -220,7 +220,7 @@ fn put_atom(
 pub fn add_prepared(store: &mut [u64], cursor: Cursor, model: u64, prepared: Preparation) -> Added
     requires good { Good store.old }
     requires valid { Valid cursor store.old }
-    ensures valid_2 { Valid result.cursor store.new }
+    ensures cursor_valid { Valid result.cursor store.new }
     ensures store_after { (edited_numbers result.edited, store.new)
         ≡ step_by store.old (add_prepared (length store.old) model (result_of prepared)) }
 {

@@ -59,9 +59,9 @@ fn values(words: &[u64]) -> NewAtom
 pub fn add_atom(store: &mut [u64], cursor: Cursor, words: &[u64], bytes: &[u8]) -> Added
     requires good { Good store.old }
     requires valid { Valid cursor store.old }
-    requires words_value { is_some (read_call 2 words.now) ≡ true }
+    requires reads_call { is_some (read_call 2 words.now) ≡ true }
     requires narrowed { Narrowed words.now bytes.now }
-    ensures valid_2 { Valid result.cursor store.new }
+    ensures cursor_valid { Valid result.cursor store.new }
     ensures store_after { some (edited_numbers result.edited, store.new) ≡ map (store_step store.old) (read_call 2 words.now) }
 {
     let chain = part_end(words, 13);
@@ -85,7 +85,7 @@ pub fn add_atom(store: &mut [u64], cursor: Cursor, words: &[u64], bytes: &[u8]) 
 
 fn remove_chain_by_id(store: &mut [u64], words: &[u64], bytes: &[u8]) -> Edited
     requires good { Good store.old }
-    requires words_value { is_some (read_call 7 words.now) ≡ true }
+    requires reads_call { is_some (read_call 7 words.now) ≡ true }
     requires narrowed { Narrowed words.now bytes.now }
     ensures { some (edited_numbers result, store.new) ≡ map (store_step store.old) (read_call 7 words.now) }
 {
@@ -95,7 +95,7 @@ fn remove_chain_by_id(store: &mut [u64], words: &[u64], bytes: &[u8]) -> Edited
 
 fn remove_residue_by_id(store: &mut [u64], words: &[u64], bytes: &[u8]) -> Edited
     requires good { Good store.old }
-    requires words_value { is_some (read_call 8 words.now) ≡ true }
+    requires reads_call { is_some (read_call 8 words.now) ≡ true }
     requires narrowed { Narrowed words.now bytes.now }
     ensures { some (edited_numbers result, store.new) ≡ map (store_step store.old) (read_call 8 words.now) }
 {
@@ -112,7 +112,7 @@ fn remove_residue_by_id(store: &mut [u64], words: &[u64], bytes: &[u8]) -> Edite
 
 fn remove_conformer_by_id(store: &mut [u64], words: &[u64], bytes: &[u8]) -> Edited
     requires good { Good store.old }
-    requires words_value { is_some (read_call 9 words.now) ≡ true }
+    requires reads_call { is_some (read_call 9 words.now) ≡ true }
     requires narrowed { Narrowed words.now bytes.now }
     ensures { some (edited_numbers result, store.new) ≡ map (store_step store.old) (read_call 9 words.now) }
 {
@@ -133,7 +133,7 @@ fn remove_conformer_by_id(store: &mut [u64], words: &[u64], bytes: &[u8]) -> Edi
 
 fn add_model(store: &mut [u64], words: &[u64]) -> Edited
     requires good { Good store.old }
-    requires words_value { is_some (read_call 1 words.now) ≡ true }
+    requires reads_call { is_some (read_call 1 words.now) ≡ true }
     ensures { some (edited_numbers result, store.new) ≡ map (store_step store.old) (read_call 1 words.now) }
 {
     additions::add_model(store, words[0])
@@ -142,8 +142,8 @@ fn add_model(store: &mut [u64], words: &[u64]) -> Edited
 // The words of a removal by position are the position.
 fn remove_at(store: &mut [u64], code: u64, words: &[u64]) -> Edited
     requires good { Good store.old }
-    requires words_value { is_some (read_call code words.now) ≡ true }
-    requires le_code { (3 ≤ code) × (code ≤ 6) }
+    requires reads_call { is_some (read_call code words.now) ≡ true }
+    requires code_range { (3 ≤ code) × (code ≤ 6) }
     ensures { some (edited_numbers result, store.new) ≡ map (store_step store.old) (read_call code words.now) }
 {
     removals::remove_at(store, words)
@@ -151,7 +151,7 @@ fn remove_at(store: &mut [u64], code: u64, words: &[u64]) -> Edited
 
 fn remove_atom_by_serial_number(store: &mut [u64], words: &[u64]) -> Edited
     requires good { Good store.old }
-    requires words_value { is_some (read_call 10 words.now) ≡ true }
+    requires reads_call { is_some (read_call 10 words.now) ≡ true }
     ensures { some (edited_numbers result, store.new) ≡ map (store_step store.old) (read_call 10 words.now) }
 {
     removals::remove_atom_by_serial_number(store, words[0], words[1], words[2], words[3], words[4])
@@ -159,7 +159,7 @@ fn remove_atom_by_serial_number(store: &mut [u64], words: &[u64]) -> Edited
 
 fn remove_atoms_by(store: &mut [u64], words: &[u64]) -> Edited
     requires good { Good store.old }
-    requires words_value { is_some (read_call 11 words.now) ≡ true }
+    requires reads_call { is_some (read_call 11 words.now) ≡ true }
     ensures { some (edited_numbers result, store.new) ≡ map (store_step store.old) (read_call 11 words.now) }
 {
     tree_removals::remove_atoms_by(store, words[0], &words[2..])
@@ -167,7 +167,7 @@ fn remove_atoms_by(store: &mut [u64], words: &[u64]) -> Edited
 
 fn remove_empty(store: &mut [u64], words: &[u64]) -> Edited
     requires good { Good store.old }
-    requires words_value { is_some (read_call 12 words.now) ≡ true }
+    requires reads_call { is_some (read_call 12 words.now) ≡ true }
     ensures { some (edited_numbers result, store.new) ≡ map (store_step store.old) (read_call 12 words.now) }
 {
     empty_removals::remove_empty(store, words[0])
@@ -176,8 +176,8 @@ fn remove_empty(store: &mut [u64], words: &[u64]) -> Edited
 // The words of a join are two positions, as long.
 fn join(store: &mut [u64], code: u64, words: &[u64]) -> Edited
     requires good { Good store.old }
-    requires words_value { is_some (read_call code words.now) ≡ true }
-    requires le_code { (13 ≤ code) × (code ≤ 16) }
+    requires reads_call { is_some (read_call code words.now) ≡ true }
+    requires code_range { (13 ≤ code) × (code ≤ 16) }
     ensures { some (edited_numbers result, store.new) ≡ map (store_step store.old) (read_call code words.now) }
 {
     let end = words.len();
@@ -188,7 +188,7 @@ fn join(store: &mut [u64], code: u64, words: &[u64]) -> Edited
 // The words are an atom's position, then the element.
 fn set_element(store: &mut [u64], words: &[u64]) -> Edited
     requires good { Good store.old }
-    requires words_value { is_some (read_call 17 words.now) ≡ true }
+    requires reads_call { is_some (read_call 17 words.now) ≡ true }
     ensures { some (edited_numbers result, store.new) ≡ map (store_step store.old) (read_call 17 words.now) }
 {
     settings::set_element(store, &words[0..5], words[5])
@@ -199,8 +199,8 @@ fn set_element(store: &mut [u64], words: &[u64]) -> Edited
 // By the code, which is not that of `AddAtom`; the last arm has the joins, 13 to 16.
 pub fn run_call(store: &mut [u64], code: u64, words: &[u64], bytes: &[u8]) -> Edited
     requires good { Good store.old }
-    requires fact { code ≡ 2 → ⊥ }
-    requires words_value { is_some (read_call code words.now) ≡ true }
+    requires no_addition { code ≡ 2 → ⊥ }
+    requires reads_call { is_some (read_call code words.now) ≡ true }
     requires narrowed { Narrowed words.now bytes.now }
     ensures { some (edited_numbers result, store.new) ≡ map (store_step store.old) (read_call code words.now) }
 {

@@ -31,9 +31,9 @@ fn apply_call(
 ) -> Added
     requires good { Good store.old }
     requires valid { Valid cursor store.old }
-    requires words_value { is_some (read_call code words.now) ≡ true }
-    requires words_in_bounds { length words.now ≤ length bytes.old }
-    ensures valid_2 { Valid result.cursor store.new }
+    requires reads_call { is_some (read_call code words.now) ≡ true }
+    requires bytes_room { length words.now ≤ length bytes.old }
+    ensures cursor_valid { Valid result.cursor store.new }
     ensures store_after { some (edited_numbers result.edited, store.new) ≡ map (store_step store.old) (read_call code words.now) }
 {
     dispatch::narrow(words, bytes);
@@ -62,8 +62,8 @@ fn put_answer(out: &mut [u64], at: usize, edited: Edited)
 // Each call in turn, and three words of the output for its answer. No call has more than 1,024 words behind its header.
 fn apply_all(store: &mut [u64], list: &[u64], out: &mut [u64])
     requires good { Good store.old }
-    requires list_value { is_some (read_calls list.now) ≡ true }
-    requires list_in_bounds { 3 * length (calls_of (read_calls list.now)) ≤ length out.old }
+    requires reads_list { is_some (read_calls list.now) ≡ true }
+    requires answers_room { 3 * length (calls_of (read_calls list.now)) ≤ length out.old }
     ensures { (store.new, out.new) ≡ applied store.old out.old (calls_of (read_calls list.now)) }
 {
     let mut bytes: [u8; 1024] = [0; 1024];

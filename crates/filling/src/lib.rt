@@ -57,7 +57,7 @@ fn add_line(line: &[u8], store: &mut [u64], cursor: Cursor, model: u64) -> Curso
     requires line_len { length line.now ≡ 81 }
     requires ready { Ready model (atom_in line.now ∷ []) store.old }
     requires valid { Valid cursor store.old }
-    ensures valid_2 { Valid result store.new }
+    ensures cursor_valid { Valid result store.new }
     ensures became { Became (in_model model (atom_in line.now ∷ []) (held store.old)) store.old store.new }
 {
     let new = scanner::atom_in(line);
@@ -67,10 +67,10 @@ fn add_line(line: &[u8], store: &mut [u64], cursor: Cursor, model: u64) -> Curso
 
 // The atoms of the first line's chain, in their order.
 fn add_chain(lines: &[u8], store: &mut [u64], cursor: Cursor, model: u64) -> Cursor
-    requires lines_nonzero { 0 < line_count_in lines.now }
+    requires some_line { 0 < line_count_in lines.now }
     requires ready { Ready model (first_chain lines.now) store.old }
     requires valid { Valid cursor store.old }
-    ensures valid_2 { Valid result store.new }
+    ensures cursor_valid { Valid result store.new }
     ensures became { Became (in_model model (first_chain lines.now) (held store.old)) store.old store.new }
 {
     let chain = chain_at(lines, 0);
@@ -113,11 +113,11 @@ fn add_chains(lines: &[u8], store: &mut [u64], model: u64)
 
 // A model's MODEL line, and its atoms' lines.
 fn add_entry(lines: &[u8], store: &mut [u64], model: u64)
-    requires lines_nonzero { 0 < line_count_in lines.now }
-    requires lines_value { all good_line (model_atoms lines.now) ≡ true }
+    requires some_line { 0 < line_count_in lines.now }
+    requires lines_good { all good_line (model_atoms lines.now) ≡ true }
     requires good { Good store.old }
-    requires store_len { length (held store.old) ≡ model }
-    requires lines_len_bound { length (records (held store.old ++ (model_of lines.now ∷ []))) ≤ capacity (length store.old) }
+    requires next_model { length (held store.old) ≡ model }
+    requires room { length (records (held store.old ++ (model_of lines.now ∷ []))) ≤ capacity (length store.old) }
     ensures { Became (held store.old ++ (model_of lines.now ∷ [])) store.old store.new }
 {
     let serial = scanner::model_in(&lines[0..LINE]);
@@ -143,10 +143,10 @@ fn model_end(text: &[u8], from: usize) -> usize
 
 // Each model, into a store that is open.
 fn fill_models(text: &[u8], store: &mut [u64])
-    requires text_value { taken_text text.now ≡ true }
+    requires taken { taken_text text.now ≡ true }
     requires good { Good store.old }
-    requires store_value { held store.old ≡ [] }
-    requires text_len_bound { length (records (build (entries_in text.now))) ≤ capacity (length store.old) }
+    requires store_empty { held store.old ≡ [] }
+    requires room { length (records (build (entries_in text.now))) ≤ capacity (length store.old) }
     ensures { Became (build (entries_in text.now)) store.old store.new }
 {
     let count = text.len() / LINE;
@@ -162,9 +162,9 @@ fn fill_models(text: &[u8], store: &mut [u64])
 
 // The store is opened and filled. The text is one of the writer's, and its records fit.
 pub fn fill(text: &[u8], store: &mut [u64])
-    requires text_value { taken_text text.now ≡ true }
-    requires store_value { good_length (length store.old) ≡ true }
-    requires text_len_bound { length (records (build (entries_in text.now))) ≤ capacity (length store.old) }
+    requires taken { taken_text text.now ≡ true }
+    requires length_good { good_length (length store.old) ≡ true }
+    requires room { length (records (build (entries_in text.now))) ≤ capacity (length store.old) }
     ensures { store.new ≡ lay_out (length store.old) (build (entries_in text.now)) }
 {
     let _opened = store::open(store);

@@ -5,7 +5,6 @@ use mathlib.Core.Bool.{Bool, true, false, cond, not, ◌&&◌, false≢true}
 use mathlib.Core.List.{List, [], ◌∷◌, ◌++◌, reverse, map, reverse-append, reverse-reverse}
 use native.Mathlib.Numerals.{add-one}
 use native.Mathlib.Omega.{arith}
-use native.Mathlib.Nat.{add-zero}
 use lib.ListN.{length, take, drop, get_or, length-reverse_aux, length-drop, drop_of_length-le, get_or-eq_default, get_or-map, length-map}
 use lib.Seq.{drop-cons, take-suc, take-length, length-take-le}
 use lib.Dec.{ltb}

@@ -226,7 +226,7 @@ pub fn spot_of(
 ) -> Spot
     requires within { Within (start + 1) end store.now }
     requires valid { Valid cursor store.now }
-    ensures result_value { found_of result ≡ spot_in (keys_of new) (start + 1) end store.now }
+    ensures spot_value { found_of result ≡ spot_in (keys_of new) (start + 1) end store.now }
     ensures lands { Lands start end new.chain store.now result }
 {
     let mut spot = Spot {

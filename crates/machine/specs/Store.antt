@@ -2,7 +2,7 @@
 -- Assumes nothing.
 use Rattle.std.specs.Prelude.{ℕ, zero, suc, ◌+◌, ◌-◌, ◌/◌, ◌%◌, Bool, true, false, ◌&&◌, cond, List, [], ◌∷◌, ◌++◌, map, length, get_or, take, drop, replicate, leb, eqb}
 use Rattle.machine.specs.Lists.{all, sum, concat_map}
-use Rattle.machine.specs.Answer.{Result, ok, ◌>>=◌, ◌>>◌, need, opened_numbers}
+use Rattle.machine.specs.Answer.{Result, ok, ◌>>◌, need, opened_numbers}
 use Rattle.machine.specs.Record.{Fields, Words, words, kind, fields_of, good_record}
 use Rattle.machine.specs.declared.Refusal.TheVariants.{BadLength, BrokenLayout}
 use Rattle.machine.specs.declared.Opened as Opened

@@ -25,7 +25,7 @@ use Rattle.pdbtbx.specs.Structs.{Struct, PDB}
 use Rattle.pdbtbx.specs.Words.{string, says_of, struct_of, structs_of, pdb_of}
 use Rattle.pdbtbx.specs.Search.{is_known, complete, add_info}
 use Rattle.pdbtbx.specs.Matches.{matches_at}
-use Rattle.pdbtbx.specs.Edits.{add_model, at_position, remove_at, remove_by_id, remove_atoms_by, remove_empty, join_at}
+use Rattle.pdbtbx.specs.Edits.{add_model, at_position, remove_at, remove_by_id, remove_atoms_by, remove_empty}
 use Rattle.pdbtbx.specs.Calls.{option_of, search_for, chosen, same_chain, same_residue, same_conformer, same_atom, fill_element, edit}
 use Rattle.pdbtbx.specs.Demand.{Reads, Flagged, InDomain, bit}
 use Rattle.pdbtbx.proofs.Values.{value_same, over-open, untold, add-value, add-complete}

@@ -1,5 +1,5 @@
 -- The crate's removals and joins are document 01's, at every level. Assumes nothing.
-use Rattle.std.proofs.Common.{◌≡◌, ℕ, zero, suc, ◌≤◌, Bool, true, false, not, ltb, List, [], ◌∷◌, ◌++◌, map, length, sym, refl, ap, ◌∙◌, ap₂, map-id, arith, lt-ltb}
+use Rattle.std.proofs.Common.{◌≡◌, ℕ, zero, suc, ◌≤◌, Bool, true, not, ltb, List, [], ◌∷◌, ◌++◌, map, length, sym, refl, ap, ◌∙◌, ap₂, map-id, arith, lt-ltb}
 use mathlib.Core.Bool.{not-not}
 use mathlib.Core.List.{map-append}
 use mathlib.Core.Option

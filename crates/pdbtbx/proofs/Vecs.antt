@@ -1,5 +1,5 @@
 -- The crate's loops over a Vec beside document 01's indexes, under a map. Assumes nothing.
-use Rattle.std.proofs.Common.{◌≡◌, ℕ, zero, suc, ◌+◌, ◌-◌, ◌<◌, Bool, true, false, cond, List, [], ◌∷◌, ◌++◌, map, reverse, length, refl, ap, arith}
+use Rattle.std.proofs.Common.{◌≡◌, ℕ, zero, suc, ◌-◌, ◌<◌, Bool, true, false, cond, List, [], ◌∷◌, ◌++◌, map, reverse, length, refl, ap, arith}
 use mathlib.Core.List.{map-append, reverse-cons}
 use mathlib.Core.Option
 use mathlib.Core.Option.{Option, none, some}

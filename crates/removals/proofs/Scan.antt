@@ -8,7 +8,7 @@ use native.Mathlib.Omega.{arith}
 use lib.ListN.{get_or}
 use borrow.Author.Tests.{eq-eqb, ne_eqb}
 use Rattle.machine.specs.Text.{matches, matches_optional}
-use Rattle.machine.specs.Record.{Words, kind}
+use Rattle.machine.specs.Record.{Words}
 use Rattle.seek.specs.Seek.{Within, record_at, records_in}
 use Rattle.seek.proofs.Below.{record-word, record-kind, records_in-cons, records_in-nil}
 use Rattle.removals.specs.Named.{Id, id_of, is_named, sought, count_before}

@@ -14,7 +14,7 @@ use seek::Span;
 // The records from number p up to q go, and the trailer is set: how many atoms went.
 pub fn remove_span(store: &mut [u64], p: usize, q: usize) -> u64
     requires { Removable p q store.old }
-    ensures value { result ≡ atom_records (records_in p q store.old) }
+    ensures removed { result ≡ atom_records (records_in p q store.old) }
     ensures store_after { store.new ≡ without_records p q store.old }
 {
     let last = store.len() - 1;

@@ -21,7 +21,7 @@ use Rattle.laws.specs.Grouped.{words-kind, group-flats, chunks-length}
 use Rattle.laws.specs.Layout.{records-read, read-parts}
 use Rattle.laws.specs.Numbers.{nth-numbered, no-numbered}
 use Rattle.laws.specs.Places.{around, Spot}
-use Rattle.seek.specs.Seek.{held, Good, Within, records_in, is_atom, atom_records, span_at, span, span_of}
+use Rattle.seek.specs.Seek.{held, Good, Within, records_in, is_atom, atom_records, span_at, span_of}
 use Rattle.seek.proofs.Below.{chunks-take, flat-root}
 use Rattle.seek.specs.declared.Span as Span
 

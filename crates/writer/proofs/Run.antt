@@ -8,10 +8,9 @@ use lib.ListN.{length, drop}
 use borrow.Author.Tests.{le-leb, lt-leb}
 use Rattle.machine.specs.Answer.{written_numbers}
 use Rattle.machine.specs.Store.{read_store}
-use Rattle.machine.specs.Lines.{Entry, entry_of, writable, machine_text}
+use Rattle.machine.specs.Lines.{entry_of, writable, machine_text}
 use Rattle.machine.specs.Write.{store_text, write_run}
 use Rattle.machine.specs.declared.Refusal.{Refusal}
-use Rattle.machine.specs.declared.Refusal.TheVariants as Refusal
 use Rattle.machine.specs.declared.Written.TheVariants as Written
 use Rattle.moves.specs.Over.{over}
 use Rattle.decimals.specs.Put.{put_at}

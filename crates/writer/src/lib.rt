@@ -125,8 +125,8 @@ fn put_end(out: &mut [u8], at: usize, begun: bool) -> usize
 // The lines that a record makes. A model also ends the one before it.
 fn put_record(out: &mut [u8], at: usize, begun: bool, above: Above, words: &[u64]) -> usize
     requires good_words { GoodWords words.now }
-    requires words_value { all (all fitting) (record_lines true (parents above) words.now) ≡ true }
-    requires words_in_bounds { at + length (concat_map line_of (record_lines begun (parents above) words.now)) ≤ length out.old }
+    requires fits { all (all fitting) (record_lines true (parents above) words.now) ≡ true }
+    requires room { at + length (concat_map line_of (record_lines begun (parents above) words.now)) ≤ length out.old }
     ensures { (result, out.new) ≡ put_at (concat_map line_of (record_lines begun (parents above) words.now)) at out.old }
 {
     let kind = words[Record::KIND];
@@ -145,8 +145,8 @@ fn put_record(out: &mut [u8], at: usize, begun: bool, above: Above, words: &[u64
 // The text from the output's first byte on; answers its length. A store's first record is a model, so that after it one was begun.
 pub fn write_all(store: &[u64], out: &mut [u8]) -> usize
     requires good { Good store.now }
-    requires store_value { writable (map entry_of (held store.now)) ≡ true }
-    requires store_in_bounds { length (machine_text (held store.now)) ≤ length out.old }
+    requires writes { writable (map entry_of (held store.now)) ≡ true }
+    requires room { length (machine_text (held store.now)) ≤ length out.old }
     ensures { (result, out.new) ≡ put_at (machine_text (held store.now)) 0 out.old }
 {
     let count = seek::record_count(store);

@@ -12,13 +12,13 @@ put_atom-requires c =
     record {
       good = c.requires.good;
       valid = c.requires.valid;
-      store_value = at-span _ _ _ (sym c.model_span.ensures ∙ c.in-At.is);
-      value = sym c.good_values.ensures ∙ c.if-good_values.true;
+      span_held = at-span _ _ _ (sym c.model_span.ensures ∙ c.in-At.is);
+      values_good = sym c.good_values.ensures ∙ c.if-good_values.true;
     }
 
 pub returns-then-good_values : goal.returns-then-good_values
 returns-then-good_values c =
-    record { valid_2 = c.put_atom.ensures.valid_2; store_after = atom-ready _ c.requires.good _ _ _ c.model_span.ensures _ _ c.in-At.is _ c.in-Ready.is c.put_atom.ensures.store_after }
+    record { cursor_valid = c.put_atom.ensures.cursor_valid; store_after = atom-ready _ c.requires.good _ _ _ c.model_span.ensures _ _ c.in-At.is _ c.in-Ready.is c.put_atom.ensures.store_after }
 
 pub returns-else-good_values : goal.returns-else-good_values
 returns-else-good_values c = search (rules, atom-bad)

@@ -15,19 +15,19 @@ overflow_add-count c =
 
 pub returns-then-capacity_of-count : goal.returns-then-capacity_of-count
 returns-then-capacity_of-count c =
-    record { valid_2 = c.requires.valid; store_after = atom-full _ c.requires.good c.args.model _ _ c.requires.store_value c.args.new c.requires.value _ c.spot_of-spot.ensures.result_value c.spot_of-spot.ensures.lands _ c.record_count-count.ensures _ c.capacity_of.ensures c.if-capacity_of-count.true }
+    record { cursor_valid = c.requires.valid; store_after = atom-full _ c.requires.good c.args.model _ _ c.requires.span_held c.args.new c.requires.values_good _ c.spot_of-spot.ensures.spot_value c.spot_of-spot.ensures.lands _ c.record_count-count.ensures _ c.capacity_of.ensures c.if-capacity_of-count.true }
 
 pub put_records-requires : goal.put_records-requires
 put_records-requires c =
-    atom-room _ c.requires.good c.args.model _ _ c.requires.store_value c.args.new c.requires.value _ c.spot_of-spot.ensures.result_value c.spot_of-spot.ensures.lands _ c.record_count-count.ensures _ c.capacity_of.ensures c.if-capacity_of-count.false _
+    atom-room _ c.requires.good c.args.model _ _ c.requires.span_held c.args.new c.requires.values_good _ c.spot_of-spot.ensures.spot_value c.spot_of-spot.ensures.lands _ c.record_count-count.ensures _ c.capacity_of.ensures c.if-capacity_of-count.false _
 
 pub advanced-next-requires : goal.advanced-next-requires
 advanced-next-requires c =
-    (model-few _ c.requires.good c.args.model _ _ c.requires.store_value, c.spot_of-spot.ensures.lands.within, c.spot_of-spot.ensures.lands.depth)
+    (model-few _ c.requires.good c.args.model _ _ c.requires.span_held, c.spot_of-spot.ensures.lands.within, c.spot_of-spot.ensures.lands.depth)
 
 pub returns : goal.returns
 returns c =
     let both =
-    atom-done _ c.requires.good c.args.model _ _ c.requires.store_value c.args.new c.requires.value _ c.spot_of-spot.ensures.result_value c.spot_of-spot.ensures.lands _ c.record_count-count.ensures _ c.capacity_of.ensures c.if-capacity_of-count.false _ _ c.column_of-column.ensures c.put_records.ensures c.args.cursor _ c.requires.valid c.advanced-next.ensures
+    atom-done _ c.requires.good c.args.model _ _ c.requires.span_held c.args.new c.requires.values_good _ c.spot_of-spot.ensures.spot_value c.spot_of-spot.ensures.lands _ c.record_count-count.ensures _ c.capacity_of.ensures c.if-capacity_of-count.false _ _ c.column_of-column.ensures c.put_records.ensures c.args.cursor _ c.requires.valid c.advanced-next.ensures
     in
-    record { valid_2 = both.0; store_after = both.1 }
+    record { cursor_valid = both.0; store_after = both.1 }

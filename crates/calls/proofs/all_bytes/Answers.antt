@@ -1,4 +1,3 @@
--- `calls::all_bytes` meets its contract. What holds of the words left holds of all, and these fall. Assumes nothing.
 use Rattle.std.proofs.Common.{arith, get_or, rules, ◌<◌}
 use Rattle.calls.proofs.Laws.{bytes-end, bytes-bad, bytes_next}
 use Rattle.calls.proofs.all_bytes.Goals as goal

@@ -1,4 +1,3 @@
--- `calls::count_calls` meets its contract. The calls counted and those left are all, and the words left fall. Assumes nothing.
 use Rattle.std.proofs.Common.{arith, get_or, length, rules, ◌+◌, ◌-◌, ◌<◌}
 use Rattle.calls.proofs.Laws.{calls-begin, calls-end, calls-cut, calls-long, calls-past, calls-bad, calls-next}
 use Rattle.calls.proofs.count_calls.Goals as goal

@@ -1,4 +1,3 @@
--- `calls::good_parts` meets its contract. The parts left are good where all are, and they fall. Assumes nothing.
 use Rattle.std.proofs.Common.{arith, get_or, length, rules, ◌+◌, ◌-◌, ◌<◌}
 use Rattle.calls.proofs.Laws.{parts-end, parts_out, parts-over, parts-bad, parts_next}
 use Rattle.calls.proofs.good_parts.Goals as goal

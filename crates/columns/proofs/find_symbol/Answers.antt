@@ -1,4 +1,3 @@
--- `columns::find_symbol` finds the first symbol that stands so. Assumes nothing.
 use Rattle.std.proofs.Common.{rules}
 use Rattle.columns.proofs.Symbols.{not-before, found_here, not-here, nowhere}
 use Rattle.columns.proofs.find_symbol.Goals as goal

@@ -1,4 +1,3 @@
--- `columns::put_last` meets its contract. Assumes nothing.
 use Rattle.std.proofs.Common.{rules}
 use Rattle.columns.proofs.Numbers.{last-start, last_turn, last_end}
 use Rattle.columns.proofs.put_last.Goals as goal

@@ -1,4 +1,3 @@
--- `columns::put_number` meets its contract. Assumes nothing.
 use Rattle.std.proofs.Common.{rules}
 use Rattle.columns.proofs.Numbers.{number-start, number-turn, number-end}
 use Rattle.columns.proofs.put_number.Goals as goal

@@ -1,4 +1,3 @@
--- `decimals::put_bytes` meets its contract. The loop's invariant: the bytes passed stand over the text, which keeps its length. Assumes nothing.
 use Rattle.std.proofs.Common.{rules}
 use Rattle.moves.proofs.Turns.{write-start, write-turn}
 use Rattle.decimals.proofs.Laws.{bytes-end}

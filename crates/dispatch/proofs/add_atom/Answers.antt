@@ -21,9 +21,9 @@ part_end-name-requires c = search (rules, atom-fits₅)
 pub returns : goal.returns
 returns c =
     record {
-      valid_2 = c.add_prepared.ensures.valid_2;
+      cursor_valid = c.add_prepared.ensures.cursor_valid;
       store_after =
-          atom-call c.args.words.now c.requires.words_value
+          atom-call c.args.words.now c.requires.reads_call
           c.part_end-chain.result c.part_end-chain.ensures.0
           c.part_end-code.result c.part_end-code.ensures.0
           c.part_end-conformer.result c.part_end-conformer.ensures.0

@@ -1,4 +1,3 @@
--- `dispatch::narrow` meets its contract. The loop's invariant: the bytes passed are the words passed, and the bytes keep their length. Assumes nothing.
 use Rattle.std.proofs.Common.{rules}
 use Rattle.dispatch.proofs.Texts.{narrow-turn, narrow-end}
 use Rattle.dispatch.proofs.narrow.Goals as goal

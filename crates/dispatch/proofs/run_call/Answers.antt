@@ -29,14 +29,14 @@ remove_empty-requires c = search (rules, at_code)
 pub set_element-requires : goal.set_element-requires
 set_element-requires c = search (rules, at_code)
 
-pub join-requires-clause-le_code : goal.join-requires-clause-le_code
-join-requires-clause-le_code c =
+pub join-requires-clause-code_range : goal.join-requires-clause-code_range
+join-requires-clause-code_range c =
     let code = c.args.code in
-    let known = read code c.args.words.now c.requires.words_value in
+    let known = read code c.args.words.now c.requires.reads_call in
     let later = c.in_default-1.rest in
     let none = later.0 in (
       elim c.in_default.branch [
-        | in_default-via-then-code-lt3 w ↦ absurd (codes-none code known.low (omega arith) none.0.0.0.0.0.0.1 c.requires.fact)
+        | in_default-via-then-code-lt3 w ↦ absurd (codes-none code known.low (omega arith) none.0.0.0.0.0.0.1 c.requires.no_addition)
         | in_default-via-else-code-lt3+else-code-lt7 w ↦ codes-join code (omega arith) none.0.0.0.0.0.1 none.0.0.0.0.1 none.0.0.0.1 none.0.0.1 none.0.1 none.1
       ],
       codes-last code known.high later.1,

@@ -1,5 +1,3 @@
--- `edits::apply_all` meets its contract. The loop's invariant: the calls that are left do what all of them did, no length changes, and
--- the place is that of the store. Assumes nothing.
 use Rattle.std.proofs.Common.{arith, rules}
 use Rattle.insertion.proofs.PointsInto.{nowhere-known}
 use Rattle.edits.proofs.Lists.{going_start, next_of, next-reads, next-short, answer-room, going-turn, going_end}
@@ -22,7 +20,7 @@ apply_call-added-requires c =
     let loop = c.loop-at in
     let inv = loop.invariant in
     let t = c.loop-at-test.true in
-    record { good = inv.0.good; valid = inv.3; words_value = next-reads inv.0 t; words_in_bounds = next-short inv.0 t loop.bytes inv.2 }
+    record { good = inv.0.good; valid = inv.3; reads_call = next-reads inv.0 t; bytes_room = next-short inv.0 t loop.bytes inv.2 }
 
 pub put_answer-requires : goal.put_answer-requires
 put_answer-requires c = search (rules, answer-room)
@@ -36,7 +34,7 @@ pub loop-at-preserved : goal.loop-at-preserved
 loop-at-preserved c =
     let inv = c.loop-at.invariant in
     let t = c.loop-at-test.true in
-    (going-turn inv.0 t _ _ c.apply_call-added.result.edited c.apply_call-added.ensures.store_after c.put_answer.ensures, search rules, search rules, c.apply_call-added.ensures.valid_2)
+    (going-turn inv.0 t _ _ c.apply_call-added.result.edited c.apply_call-added.ensures.store_after c.put_answer.ensures, search rules, search rules, c.apply_call-added.ensures.cursor_valid)
 
 pub returns : goal.returns
 returns c = search (rules, going_end)

@@ -1,4 +1,3 @@
--- `empty_removals::gather` meets its contract. The loop keeps `Passed`, and the records left fall. Assumes nothing.
 use Rattle.std.proofs.Common.{rules}
 use Rattle.empty_removals.proofs.Laws.{gather-start, gather-within, gather-keep, gather-skip, gather-end}
 use Rattle.empty_removals.proofs.gather.Goals as goal

@@ -1,4 +1,3 @@
--- `filling::add_chain` adds the lines of a chain. Assumes nothing.
 use Rattle.std.proofs.Common.{rules}
 use Rattle.filling.proofs.Lines.{slice-length}
 use Rattle.filling.proofs.Chains.{adding-start, adding-ready, adding-line, adding_other, adding-end}
@@ -15,7 +14,7 @@ loop-at-preserved-then-chain_at-chain c =
     let before = c.loop-at-test.true in
     let one = c.chain_at-chain.ensures in
     let other = c.chain_at.ensures in
-    (adding-line _ _ _ _ _ c.loop-at.invariant.0 before _ _ one other _ c.if-chain_at-chain.true c.add_line-next.ensures.became, c.add_line-next.ensures.valid_2)
+    (adding-line _ _ _ _ _ c.loop-at.invariant.0 before _ _ one other _ c.if-chain_at-chain.true c.add_line-next.ensures.became, c.add_line-next.ensures.cursor_valid)
 
 pub loop-at-preserved : goal.loop-at-preserved
 loop-at-preserved c = search (rules, adding_other)

@@ -1,4 +1,3 @@
--- `filling::add_chains` adds the lines chain by chain. Assumes nothing.
 use Rattle.std.proofs.Common.{rules}
 use Rattle.insertion.proofs.PointsInto.{nowhere-known}
 use Rattle.filling.proofs.Lines.{rest_lines}
@@ -18,7 +17,7 @@ pub loop-n-preserved : goal.loop-n-preserved
 loop-n-preserved c =
     let before = c.loop-n-test.true in
     let new = c.is_seen.ensures in
-    (chaining-new _ _ _ _ _ c.loop-n.invariant.0 before _ new _ c.if-is_seen.false c.add_chain-next.ensures.became, c.add_chain-next.ensures.valid_2)
+    (chaining-new _ _ _ _ _ c.loop-n.invariant.0 before _ new _ c.if-is_seen.false c.add_chain-next.ensures.became, c.add_chain-next.ensures.cursor_valid)
 
 pub returns : goal.returns
 returns c = search (rules, chaining-end)

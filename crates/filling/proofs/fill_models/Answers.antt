@@ -1,4 +1,3 @@
--- `filling::fill_models` adds each model in turn. Assumes nothing.
 use Rattle.std.proofs.Common.{arith, rules}
 use Rattle.filling.proofs.Models.{none_filled, end_low, lines-some, lines-good, lines-room, one-filled, all-filled}
 use Rattle.filling.proofs.fill_models.Goals as goal
@@ -22,11 +21,11 @@ add_entry-requires c =
     let t = c.loop-n-test.true in
     let e = c.model_end-end.ensures in
     record {
-      lines_nonzero = lines-some _ _ _ _ _ f t _ e;
-      lines_value = lines-good _ _ _ _ _ f t _ e;
+      some_line = lines-some _ _ _ _ _ f t _ e;
+      lines_good = lines-good _ _ _ _ _ f t _ e;
       good = f.good;
-      store_len = f.number;
-      lines_len_bound = lines-room _ _ _ _ _ f t _ e;
+      next_model = f.number;
+      room = lines-room _ _ _ _ _ f t _ e;
     }
 
 pub overflow_add-n-in-loop-n : goal.overflow_add-n-in-loop-n

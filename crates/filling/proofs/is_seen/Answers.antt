@@ -1,4 +1,3 @@
--- `filling::is_seen` looks back for the chain. Assumes nothing.
 use Rattle.std.proofs.Common.{rules}
 use Rattle.filling.proofs.Lines.{none-looked, same-chain, other-chain, all-looked}
 use Rattle.filling.proofs.is_seen.Goals as goal

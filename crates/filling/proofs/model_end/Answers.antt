@@ -1,4 +1,3 @@
--- `filling::model_end` finds the first E line. Assumes nothing.
 use Rattle.std.proofs.Common.{rules}
 use Rattle.filling.proofs.Lines.{none-ended, end_line, atom-line, all-ended}
 use Rattle.filling.proofs.model_end.Goals as goal

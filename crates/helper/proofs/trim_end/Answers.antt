@@ -1,4 +1,3 @@
--- `helper::trim_end` passes the blanks at the end. Assumes nothing.
 use Rattle.std.proofs.Common.{rules}
 use Rattle.helper.proofs.Laws.{end-begin, end-again, end-found, end_none}
 use Rattle.helper.proofs.trim_end.Goals as goal

@@ -1,4 +1,3 @@
--- `helper::trim_start` passes the blanks at the front. Assumes nothing.
 use Rattle.std.proofs.Common.{rules}
 use Rattle.helper.proofs.Laws.{start-begin, start-again, start-found, start_none}
 use Rattle.helper.proofs.trim_start.Goals as goal

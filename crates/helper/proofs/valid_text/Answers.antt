@@ -1,4 +1,3 @@
--- `helper::valid_text` finds the first byte that is not plain. Assumes nothing.
 use Rattle.std.proofs.Common.{rules}
 use Rattle.helper.proofs.Laws.{valid-begin, valid-again, valid-not, valid-done}
 use Rattle.helper.proofs.valid_text.Goals as goal

@@ -1,4 +1,3 @@
--- `insertion::find_child` meets its contract. The loop keeps `Searched`, and the records left fall. Assumes nothing.
 use Rattle.std.proofs.Common.{rules}
 use Rattle.insertion.proofs.Laws.{search-begin, search-pass, search-on, search-hit, search-end}
 use Rattle.insertion.proofs.find_child.Goals as goal

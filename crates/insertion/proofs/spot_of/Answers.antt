@@ -9,7 +9,7 @@ returns-in_default c =
     let both =
     no-chain _ _ _ _ _ _ c.requires.within _ c.chain_span.ensures c.in_default.is
     in
-    record { result_value = both.0; lands = both.1 }
+    record { spot_value = both.0; lands = both.1 }
 
 pub residue_span-residues-requires : goal.residue_span-residues-requires
 residue_span-residues-requires c = search (rules, spot-within)
@@ -19,7 +19,7 @@ returns-in_default-residues c =
     let both =
     no-residue _ _ _ _ _ _ c.requires.within _ c.chain_span.ensures _ _ c.in-At.is _ c.residue_span-residues.ensures c.in_default-residues.is
     in
-    record { result_value = both.0; lands = both.1 }
+    record { spot_value = both.0; lands = both.1 }
 
 pub conformer_span-conformers-requires : goal.conformer_span-conformers-requires
 conformer_span-conformers-requires c =
@@ -33,7 +33,7 @@ returns-in_default-conformers c =
     no-conformer _ _ _ _ _ _ c.requires.within _ c.chain_span.ensures _ _ c.in-At.is _ c.residue_span-residues.ensures _ _ c.in-At-residues.is _
     c.conformer_span-conformers.ensures c.in_default-conformers.is
     in
-    record { result_value = both.0; lands = both.1 }
+    record { spot_value = both.0; lands = both.1 }
 
 pub returns : goal.returns
 returns c =
@@ -41,4 +41,4 @@ returns c =
     all-stand _ _ _ _ _ _ c.requires.within _ c.chain_span.ensures _ _ c.in-At.is _ c.residue_span-residues.ensures _ _ c.in-At-residues.is _
     c.conformer_span-conformers.ensures _ _ c.in-At-conformers.is
     in
-    record { result_value = both.0; lands = both.1 }
+    record { spot_value = both.0; lands = both.1 }

@@ -1,4 +1,3 @@
--- `lookup::first_in` meets its contract. The loop keeps `Looked`, and the records left fall. Assumes nothing.
 use Rattle.std.proofs.Common.{rules}
 use Rattle.lookup.proofs.Scan.{looked-begin, looked-end, looked-within, looked-here, looked-on, looked-less}
 use Rattle.lookup.proofs.first_in.Goals as goal

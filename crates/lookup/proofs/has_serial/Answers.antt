@@ -1,4 +1,3 @@
--- `lookup::has_serial` meets its contract. The loop keeps `Passed`, and the records left fall. Assumes nothing.
 use Rattle.std.proofs.Common.{rules}
 use Rattle.lookup.proofs.Serials.{passed-begin, passed-other, any-end, any_here, any-pass}
 use Rattle.lookup.proofs.has_serial.Goals as goal

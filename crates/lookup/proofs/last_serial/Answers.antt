@@ -1,4 +1,3 @@
--- `lookup::last_serial` meets its contract. The loop keeps `Left` on its way back, and the records left fall. Assumes nothing.
 use Rattle.std.proofs.Common.{rules}
 use Rattle.lookup.proofs.Serials.{left-begin, left_end, left-atom, left_other}
 use Rattle.lookup.proofs.last_serial.Goals as goal

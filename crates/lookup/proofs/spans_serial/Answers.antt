@@ -1,4 +1,3 @@
--- `lookup::spans_serial` meets its contract. The loop keeps `Passed`, and the records left fall. Assumes nothing.
 use Rattle.std.proofs.Common.{rules}
 use Rattle.lookup.proofs.Serials.{passed-begin, passed-other, spans-end, spans-low, spans-atom}
 use Rattle.lookup.proofs.spans_serial.Goals as goal

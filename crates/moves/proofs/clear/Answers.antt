@@ -1,4 +1,3 @@
--- `moves::clear` meets its contract. The loop's invariant: as many zeros as were counted stand over the slice, which keeps its length. Assumes nothing.
 use Rattle.std.proofs.Common.{rules}
 use Rattle.moves.proofs.Turns.{write-start, clear-turn, clear-end}
 use Rattle.moves.proofs.clear.Goals as goal

@@ -1,4 +1,3 @@
--- `moves::move_down` meets its contract. The loop's invariant: the words passed stand over the slice, which keeps its length. Assumes nothing.
 use Rattle.std.proofs.Common.{rules}
 use Rattle.moves.proofs.Turns.{write-start, down_turn, down-end}
 use Rattle.moves.proofs.move_down.Goals as goal

@@ -1,4 +1,3 @@
--- `moves::move_up` meets its contract. The loop's invariant: the words from the last down to number `left` stand over the slice. Assumes nothing.
 use Rattle.std.proofs.Common.{rules}
 use Rattle.moves.proofs.Turns.{up_start, up_turn, up-end}
 use Rattle.moves.proofs.move_up.Goals as goal

@@ -1,4 +1,3 @@
--- `moves::reverse` meets its contract. The loop's invariant: to reverse what is left, from i to j, leads to what is asked. Assumes nothing.
 use Rattle.std.proofs.Common.{arith, length-set, rules}
 use Rattle.moves.proofs.Turns.{reverse-turn, reverse-end}
 use Rattle.moves.proofs.reverse.Goals as goal

@@ -1,4 +1,3 @@
--- `moves::write_over` meets its contract. The loop's invariant: the words passed stand over the slice, which keeps its length. Assumes nothing.
 use Rattle.std.proofs.Common.{rules}
 use Rattle.moves.proofs.Turns.{write-start, write-turn, write-end}
 use Rattle.moves.proofs.write_over.Goals as goal

@@ -1,4 +1,3 @@
--- `program::put_hits` meets its contract. The loop's invariant: the lines of the hits passed stand in the text. Assumes nothing.
 use Rattle.std.proofs.Common.{rules}
 use Rattle.program.proofs.Laws.{five-words, hits-start, hits-end, hits-room, hits-turn}
 use Rattle.program.proofs.put_hits.Goals as goal

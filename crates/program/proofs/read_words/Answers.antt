@@ -1,4 +1,3 @@
--- `program::read_words` meets its contract. The loop's invariant: the words passed stand over the slice, which keeps its length. Assumes nothing.
 use Rattle.std.proofs.Common.{rules}
 use Rattle.program.proofs.Laws.{eight-bytes, words-start, words-turn, words-end}
 use Rattle.program.proofs.read_words.Goals as goal

@@ -1,4 +1,3 @@
--- `reader::taken_text` is `taken_text`. Assumes nothing.
 use Rattle.std.proofs.Common.{rules}
 use Rattle.reader.proofs.Laws.{ragged, none-taken, slice-length, more-taken, not_taken, all-taken}
 use Rattle.reader.proofs.taken_text.Goals as goal

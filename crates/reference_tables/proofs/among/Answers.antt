@@ -1,4 +1,3 @@
--- `reference_tables::among` meets its contract: one name to a turn. Assumes nothing.
 use Rattle.std.proofs.Common.{rules}
 use Rattle.reference_tables.proofs.Member.{passed_none, met, passed-one, ended}
 use Rattle.reference_tables.proofs.among.Goals as goal

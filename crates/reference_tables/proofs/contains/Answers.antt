@@ -1,4 +1,3 @@
--- `reference_tables::contains` meets its contract: four names to a turn, and the last few one by one. Assumes nothing.
 use Rattle.std.proofs.Common.{rules}
 use Rattle.reference_tables.proofs.Member.{passed_none, met-four, passed-four, rest}
 use Rattle.reference_tables.proofs.contains.Goals as goal

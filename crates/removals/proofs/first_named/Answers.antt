@@ -1,4 +1,3 @@
--- `removals::first_named` meets its contract. The loop keeps `Passed`, and the records left fall. Assumes nothing.
 use Rattle.std.proofs.Common.{rules}
 use Rattle.removals.proofs.Scan.{passed-begin, passed-kind, passed-other, passed_here, passed-end}
 use Rattle.removals.proofs.first_named.Goals as goal

@@ -47,4 +47,4 @@ pub returns : goal.returns
 returns c =
     let a = c.args in
     let s = parent a.store.now a.position.now c.requires.good c.requires.in_bounds.0 c.requires.in_bounds.1 _ c.locate.ensures _ _ c.in-At.is in
-    first-removed s a.serial a.name.now a.flag a.other.now c.if-flag-gt1.false _ c.first_named-at.ensures c.if-q-at.false _ c.end_of-stop.ensures _ _ c.remove_span.ensures.value c.remove_span.ensures.store_after
+    first-removed s a.serial a.name.now a.flag a.other.now c.if-flag-gt1.false _ c.first_named-at.ensures c.if-q-at.false _ c.end_of-stop.ensures _ _ c.remove_span.ensures.removed c.remove_span.ensures.store_after

@@ -1,4 +1,3 @@
--- `replay::replay` is safe and ends: no count is above the number of words passed. Assumes nothing.
 use Rattle.std.proofs.Common.{rules}
 use Rattle.replay.proofs.Laws.{turned, turned-less, calls-fit, accepted-fit, at-fits}
 use Rattle.replay.proofs.replay.Goals as goal

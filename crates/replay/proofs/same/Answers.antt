@@ -1,4 +1,3 @@
--- `replay::same` meets its contract. The loop's invariant: what is left is the same just if the whole is. Assumes nothing.
 use Rattle.std.proofs.Common.{rules}
 use Rattle.replay.proofs.Laws.{other_length, same_next, same_not, same_end}
 use Rattle.replay.proofs.same.Goals as goal

@@ -1,4 +1,3 @@
--- `room::adding_lines` is `adding_lines`. Assumes nothing.
 use Rattle.std.proofs.Common.{rules}
 use Rattle.room.proofs.Laws.{none-added, end-added, line-added, all-added}
 use Rattle.room.proofs.adding_lines.Goals as goal

@@ -1,4 +1,3 @@
--- `room::needed` is `looked`. Assumes nothing.
 use Rattle.std.proofs.Common.{rules}
 use Rattle.room.proofs.Laws.{none_seen, seen-ended, seen-small, more-seen, all_seen}
 use Rattle.room.proofs.needed.Goals as goal

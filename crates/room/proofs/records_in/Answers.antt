@@ -1,4 +1,3 @@
--- `room::records_in` is `records_from`. Assumes nothing.
 use Rattle.std.proofs.Common.{rules}
 use Rattle.room.proofs.Laws.{none-counted, model-counted, end-counted, atom-counted, all-counted}
 use Rattle.room.proofs.records_in.Goals as goal

@@ -1,4 +1,3 @@
--- `scanner::figures` is `figures`. Assumes nothing.
 use Rattle.std.proofs.Common.{rules}
 use Rattle.scanner.proofs.Laws.{none-figured, figures-small, more-figured, all-figured, all_small}
 use Rattle.scanner.proofs.figures.Goals as goal

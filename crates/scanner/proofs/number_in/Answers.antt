@@ -1,4 +1,3 @@
--- `scanner::number_in` finds digits and minus. Assumes nothing.
 use Rattle.std.proofs.Common.{rules}
 use Rattle.scanner.proofs.Laws.{none-scanned, scanned-small, more-scanned, all-scanned, scanned-minus, scanned-few}
 use Rattle.scanner.proofs.number_in.Goals as goal

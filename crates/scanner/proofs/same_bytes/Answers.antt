@@ -1,4 +1,3 @@
--- `scanner::same_bytes` is `same`. Assumes nothing.
 use Rattle.std.proofs.Common.{rules}
 use Rattle.scanner.proofs.Laws.{none_alike, more-alike, all_alike}
 use Rattle.scanner.proofs.same_bytes.Goals as goal

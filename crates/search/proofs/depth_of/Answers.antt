@@ -1,4 +1,3 @@
--- `search::depth_of` meets its contract: the loop's invariant: what is left of the tree, from the depth reached, gives what the whole gives. Assumes nothing.
 use Rattle.std.proofs.Common.{arith, length, sym, ◌+◌, ◌∙◌, ◌≤◌}
 use Rattle.search.proofs.Depth.{node-small, node-read, node-not-read, all_read}
 use Rattle.search.proofs.depth_of.Goals as goal

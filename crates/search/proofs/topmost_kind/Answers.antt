@@ -1,4 +1,3 @@
--- `search::topmost_kind` meets its contract. The loop's invariant: what is left of the tree gives what the whole gives. Assumes nothing.
 use Rattle.std.proofs.Common.{rules}
 use Rattle.search.proofs.Topmost.{topmost-next, topmost-end}
 use Rattle.search.proofs.topmost_kind.Goals as goal

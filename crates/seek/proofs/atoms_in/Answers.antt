@@ -1,4 +1,3 @@
--- `seek::atoms_in` meets its contract. The loop keeps `Counted`, and the records left fall. Assumes nothing.
 use Rattle.std.proofs.Common.{rules}
 use Rattle.seek.proofs.Turns.{count-begin, count-one, count_none, count-end}
 use Rattle.seek.proofs.atoms_in.Goals as goal

@@ -1,4 +1,3 @@
--- `seek::end_of` meets its contract. The loop keeps `Ran`, and the records left fall. Assumes nothing.
 use Rattle.std.proofs.Common.{rules}
 use Rattle.seek.proofs.Turns.{ran-begin, ran_on, ran-stop, ran-end}
 use Rattle.seek.proofs.end_of.Goals as goal

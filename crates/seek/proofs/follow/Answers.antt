@@ -1,4 +1,3 @@
--- `seek::follow` meets its contract. The loop keeps `Following`, and the indexes left fall. Assumes nothing.
 use Rattle.std.proofs.Common.{arith, rules}
 use Rattle.seek.proofs.Turns.{follow-begin, follow-whole, following-within, following-below, following-on, following-missing, following-end}
 use Rattle.seek.proofs.follow.Goals as goal

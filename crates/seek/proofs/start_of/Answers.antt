@@ -1,4 +1,3 @@
--- `seek::start_of` meets its contract. The loop keeps `Sought`, and the records left fall. Assumes nothing.
 use Rattle.std.proofs.Common.{rules}
 use Rattle.seek.proofs.Turns.{sought-begin, sought-pass, sought-next, sought-low, sought-here, sought-out}
 use Rattle.seek.proofs.start_of.Goals as goal

@@ -1,4 +1,3 @@
--- `store::all_zero` meets its contract. The loop's invariant: what is left is all zeros just if the whole is. Assumes nothing.
 use Rattle.std.proofs.Common.{rules}
 use Rattle.store.proofs.Turns.{zero-next, zero-not, zero-end}
 use Rattle.store.proofs.all_zero.Goals as goal

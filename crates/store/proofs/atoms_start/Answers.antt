@@ -1,4 +1,3 @@
--- `store::atoms_start` meets its contract. The loop: those that are passed are good atoms (`Led`). Assumes nothing.
 use Rattle.std.proofs.Common.{rules}
 use Rattle.store.proofs.Turns.{record-length, led-none, led-next, led-not, led-end}
 use Rattle.store.proofs.atoms_start.Goals as goal

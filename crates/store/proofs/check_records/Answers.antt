@@ -1,4 +1,3 @@
--- `store::check_records` meets its contract. The loop's invariant: the records that are passed are in order (`Behind`). Assumes nothing.
 use Rattle.std.proofs.Common.{arith, rules}
 use Rattle.store.proofs.Turns.{behind-none, first-atom, atom-bad, kind-jumps, record-above, record-not, behind-next, first_kind, all-good}
 use Rattle.store.proofs.check_records.Goals as goal

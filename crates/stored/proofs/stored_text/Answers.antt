@@ -1,4 +1,3 @@
--- `stored::stored_text` is `stored_text` of eight bytes: one byte to a turn. The measure is the worth of a byte. Assumes nothing.
 use Rattle.std.proofs.Common.{rules}
 use Rattle.stored.proofs.Words.{text-begin, text-all, text-again, text-not, text-done}
 use Rattle.stored.proofs.stored_text.Goals as goal

@@ -1,4 +1,3 @@
--- `tree_removals::compact` meets its contract. The loop keeps `Passed`, and the records left fall. Assumes nothing.
 use Rattle.std.proofs.Common.{rules}
 use Rattle.tree_removals.proofs.Laws.{pass-start, pass-keep, pass-skip, pass-end}
 use Rattle.tree_removals.proofs.compact.Goals as goal

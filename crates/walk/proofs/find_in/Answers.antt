@@ -1,4 +1,3 @@
--- `walk::find_in` meets its contract: the hits still to come, written where they go, make the output whole. Assumes nothing.
 use Rattle.std.proofs.Common.{arith, refl}
 use Rattle.walk.proofs.Laws.{least, most, walk-entered, walk-five, walk_inside, walk-settled, write-start, write-end, write-deep, write-miss, write-hit}
 use Rattle.walk.proofs.find_in.Goals as goal

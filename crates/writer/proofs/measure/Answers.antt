@@ -1,4 +1,3 @@
--- `writer::measure` meets its contract: the lines counted and those still to come are all, and all fits where these fit. Assumes nothing.
 use Rattle.std.proofs.Common.{arith, rules}
 use Rattle.writer.proofs.Turns.{words-good, measure-start, few-next, measure-next, measure-wide, measure-end}
 use Rattle.writer.proofs.measure.Goals as goal

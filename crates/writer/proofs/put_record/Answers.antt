@@ -5,7 +5,7 @@ use Rattle.writer.proofs.put_record.Goals as goal
 
 pub atom_line-line-requires : goal.atom_line-line-requires
 atom_line-line-requires c =
-    (good-atom _ c.requires.good_words c.if-kind-eq-ATOM.true, atom-fits _ _ c.requires.words_value c.if-kind-eq-ATOM.true)
+    (good-atom _ c.requires.good_words c.if-kind-eq-ATOM.true, atom-fits _ _ c.requires.fits c.if-kind-eq-ATOM.true)
 
 pub put_bytes-requires : goal.put_bytes-requires
 put_bytes-requires c = search (rules, atom-room)

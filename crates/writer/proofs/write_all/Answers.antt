@@ -1,4 +1,3 @@
--- `writer::write_all` meets its contract: the lines still to come, put where they go, make the text whole. Assumes nothing.
 use Rattle.std.proofs.Common.{rules}
 use Rattle.writer.proofs.Turns.{words-good, write-start, here-fits, here-room, write-next, last-room, write-end}
 use Rattle.writer.proofs.write_all.Goals as goal
