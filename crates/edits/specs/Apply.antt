@@ -1,5 +1,5 @@
 -- A list of edits applied to a store as one call. Assumes nothing.
-use Rattle.std.specs.Prelude.{ℕ, ◌*◌, cond, List, [], ◌∷◌, ◌++◌, length, drop, leb}
+use Rattle.std.specs.Prelude.{ℕ, ◌*◌, cond, List, [], ◌++◌, length, drop, leb}
 use Rattle.std.proofs.Math.Option.{Option, none, some}
 use Rattle.machine.specs.Lists.{concat_map}
 use Rattle.machine.specs.Answer.{Result, ok, refused, applied_numbers}

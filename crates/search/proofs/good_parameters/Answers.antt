@@ -1,6 +1,6 @@
 -- `search::good_parameters` meets its contract: the codes of an arm have parameters of one sort. 9 and 10 are no keys in the compiled match.
 -- Assumes nothing.
-use Rattle.std.proofs.Common.{[], arith, eqb, inl, inr, refl, sym, ◌&&◌, ◌∙◌, ◌∷◌, ◌≡◌}
+use Rattle.std.proofs.Common.{[], arith, eqb, refl, sym, ◌&&◌, ◌∙◌, ◌∷◌, ◌≡◌}
 use Rattle.machine.specs.Text.{packed_text}
 use Rattle.machine.specs.Query.{codes}
 use Rattle.search.specs.Nodes.{good_node}
