@@ -18,7 +18,7 @@ use Rattle.machine.specs.declared.Refusal.TheVariants.{BadLength, BadText}
 use Rattle.machine.specs.declared.Opened as Opened
 use Rattle.laws.specs.Good.{Fit}
 use Rattle.laws.specs.Steps.{step_keeps, refusal-number}
-use Rattle.lines.specs.Scan.{taken-text, taken-entries}
+use Rattle.lines.proofs.Scan.{taken-text, taken-entries}
 use Rattle.demands.proofs.Demand.{store_step_lem}
 
 -- ---- the answer and the words

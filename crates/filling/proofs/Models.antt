@@ -19,7 +19,7 @@ use Rattle.laws.specs.Lists.{and_both, concat_map-append}
 use Rattle.laws.specs.Good.{Fit}
 use Rattle.laws.specs.Layout.{fit_words, lay_out-length, open-empty, lay_out-read}
 use Rattle.lines.specs.Taken.{taken_atom, taken_model, taken_end, opens, taken_line, taken_from, taken_text}
-use Rattle.lines.specs.Scan.{taken-good}
+use Rattle.lines.proofs.Scan.{taken-good}
 use Rattle.lines.specs.Numbered.{line_count_in, line_at, lines_from, lines-all, lines_next, lines_none, lines-skip, lines-part, lines-front, lines-count}
 use Rattle.building.specs.Picks.{change-end}
 use Rattle.building.specs.Build.{into_all, build}

@@ -5,5 +5,4 @@ pub mod Fields
 pub mod Text
 pub mod Exactly
 pub mod Small
-pub mod Scan
 pub mod Numbered

@@ -21,12 +21,12 @@ use Rattle.machine.specs.declared.Refusal.TheVariants.{BadLength, NoCapacity, Ba
 use Rattle.machine.specs.declared.Opened as Opened
 use Rattle.laws.specs.Lists.{and-true}
 use Rattle.lines.specs.Taken.{taken_atom, taken_model, taken_end, opens, taken_line, taken_from, taken_text}
-use Rattle.lines.specs.Scan.{taken-text, taken-entries, taken-good, taken-closed}
+use Rattle.lines.proofs.Scan.{taken-text, taken-entries, taken-good, taken-closed}
 use Rattle.lines.specs.Numbered.{line_at, lines_from, lines-all, lines_next, lines_none}
 use Rattle.building.specs.Lacks.{records_from}
 use Rattle.building.specs.Build.{build}
 use Rattle.building.specs.Run.{text-run}
-use Rattle.building.specs.Bounds.{text-size}
+use Rattle.building.proofs.Bounds.{text-size}
 
 -- ---- one line
 

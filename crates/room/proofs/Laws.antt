@@ -16,7 +16,8 @@ use Rattle.laws.specs.Lists.{and_both}
 use Rattle.lines.specs.Numbered.{line_count_in, line_at, lines_from, atoms_back, lines-all, lines_next, lines_none}
 use Rattle.lines.specs.Taken.{taken_atom, taken_model, taken_end, opens, taken_line, taken_from, taken_text}
 use Rattle.building.specs.Lacks.{lacks, ends, looked, records_from}
-use Rattle.building.specs.Bounds.{adding_lines, records-above, records-least}
+use Rattle.building.specs.Bounds.{adding_lines}
+use Rattle.building.proofs.Bounds.{records-above, records-least}
 
 -- ---- one line
 
