@@ -1,10 +1,10 @@
 -- An addition below a model's children is one column of records put in at one place, and that place is where the scans lead.
 -- Assumes nothing.
+use Rattle.std.specs.Prelude.{None, Option, Some, option_map}
 use Prim.Native.Nat.{ℕ, suc, ◌+◌, ◌≤◌, ◌<◌}
 use mathlib.Core.Path.{◌≡◌, refl, sym, ap, ◌∙◌}
 use mathlib.Core.Bool.{Bool, true, false, and-true}
 use mathlib.Core.List.{List, [], ◌∷◌, ◌++◌, append_assoc, append-nil}
-use mathlib.Core.Option.{Option, none, some, map}
 use native.Mathlib.Nat.{zero-add}
 use native.Mathlib.Omega.{arith}
 use lib.ListN.{length, take, drop, length-append, length-drop, take-append-drop}
@@ -34,11 +34,11 @@ module _ (h k : ℕ) (level : h + k ≡ 4) (mark : Words → Bool) (other : (r :
 
   -- the record of the branch that is picked is the record that is picked
   abbrev Same : Which → List (Branch (suc k)) → Option ℕ → Type 0
-  Same w ts none = pick w mark (all ts) ≡ none
-  Same w ts (some i) = (t : Branch (suc k)) × (a : Around i ts t) × (pick w mark (all ts) ≡ some (length (all a.before)))
+  Same w ts None = pick w mark (all ts) ≡ None
+  Same w ts (Some i) = (t : Branch (suc k)) × (a : Around i ts t) × (pick w mark (all ts) ≡ Some (length (all a.before)))
 
   pick_first : (w : Which) (b : Bool) (t : Branch (suc k)) (ts : List (Branch (suc k))) → p t.0 ≡ b
-      → pick w mark (all (t ∷ ts)) ≡ chosen w b (map (λ i. length (concat_map (flat k) t.1) + i) (pick w mark (all ts)))
+      → pick w mark (all (t ∷ ts)) ≡ chosen w b (option_map (λ i. length (concat_map (flat k) t.1) + i) (pick w mark (all ts)))
   unfolding flat
   pick_first w b t ts e = go w ∙ rw (finds t.0, e, pick-over mark w (concat_map (flat k) t.1) (all ts) (All-map other (concat_map (flat k) t.1) (flats-kinds h k (omega arith) t.1)))
     where
@@ -64,11 +64,11 @@ module _ (h k : ℕ) (level : h + k ≡ 4) (mark : Words → Bool) (other : (r :
 
   pick-step : (w : Which) (b : Bool) (o : Option ℕ) (t : Branch (suc k)) (ts : List (Branch (suc k))) → p t.0 ≡ b → Same w ts o → Same w (t ∷ ts) (chosen w b o)
   pick-step first true o t ts e s = (t, here t ts, pick_first first true t ts e)
-  pick-step first false none t ts e s = pick_first first false t ts e ∙ rw s
-  pick-step first false (some i) t ts e s = (s.0, next t ts i s.0 s.1, pick_first first false t ts e ∙ rw s.2 (ap some (further t s.1.before)))
-  pick-step last b (some i) t ts e s = (s.0, next t ts i s.0 s.1, pick_first last b t ts e ∙ rw s.2 (ap some (further t s.1.before)))
-  pick-step last true none t ts e s = (t, here t ts, pick_first last true t ts e ∙ rw s)
-  pick-step last false none t ts e s = pick_first last false t ts e ∙ rw s
+  pick-step first false None t ts e s = pick_first first false t ts e ∙ rw s
+  pick-step first false (Some i) t ts e s = (s.0, next t ts i s.0 s.1, pick_first first false t ts e ∙ rw s.2 (ap Some (further t s.1.before)))
+  pick-step last b (Some i) t ts e s = (s.0, next t ts i s.0 s.1, pick_first last b t ts e ∙ rw s.2 (ap Some (further t s.1.before)))
+  pick-step last true None t ts e s = (t, here t ts, pick_first last true t ts e ∙ rw s)
+  pick-step last false None t ts e s = pick_first last false t ts e ∙ rw s
 
   picked : (w : Which) (ts : List (Branch (suc k))) → Same w ts (pick w (λ t. p t.0) ts)
   picked first [] = refl
@@ -122,7 +122,7 @@ module _ (h k : ℕ) (level : h + k ≡ 4) (w : List ℕ) (from end i : ℕ) (ts
       let whole : chunks end w ≡ ((x ++ lead) ++ kids) ++ rest = sym (take-append-drop from (chunks end w)) ∙ ap (λ (l : List Words). x ++ l) parts ∙ simp append_assoc in
       rw (chunks-take stop end w (omega (arith, total, lead-length)), whole, take_at ((x ++ lead) ++ kids) rest stop g) (drop_at (x ++ lead) kids (start + 1) f)
 
-  pick-there : (o : Option ℕ) → o ≡ some (length (concat_map (flat (suc k)) a.before)) → and_then o (λ i. to_end h (from + i) (drop (suc i) (records_in from end w))) ≡ some (start, stop)
+  pick-there : (o : Option ℕ) → o ≡ Some (length (concat_map (flat (suc k)) a.before)) → and_then o (λ i. to_end h (from + i) (drop (suc i) (records_in from end w))) ≡ Some (start, stop)
   pick-there o e = rw (e, after-start, kids-descendants)
 
 -- ---- one column at one place
@@ -181,13 +181,13 @@ module _ (key : Key) (k : ℕ) (level : key.kind + k ≡ 4) (low : 1 ≤ key.kin
       → (o : Option ℕ) → pick (which_by key.from_back) (λ t. p t.0) ts ≡ o → Same key.kind k level (marks key) (unmarked key) p finds (which_by key.from_back) ts o
       → Ins (suc k) ts (into ts) from (spot_in (key ∷ keys) from end w).0 (drop (spot_in (key ∷ keys) from end w).1 (words (suc k) new ∷ col))
   unfolding upsert spot_in flat
-  level-among w from end ts order e none q s =
-      let r : pick (which_by key.from_back) (marks key) (records_in from end w) ≡ none = rw e s in
+  level-among w from end ts order e None q s =
+      let r : pick (which_by key.from_back) (marks key) (records_in from end w) ≡ None = rw e s in
       rw (q, r, ← puts.alone) (ins-end (suc k) w from end ts (new, f []) order e)
-  level-among w from end ts order e (some i) q s =
+  level-among w from end ts order e (Some i) q s =
       let t = s.0 in
       let a = s.1 in
-      let r : pick (which_by key.from_back) (marks key) (records_in from end w) ≡ some (length (concat_map (flat (suc k)) a.before)) = rw e s.2 in
+      let r : pick (which_by key.from_back) (marks key) (records_in from end w) ≡ Some (length (concat_map (flat (suc k)) a.before)) = rw e s.2 in
       let span = pick-there key.kind k level w from end i ts t a low order e _ r in
       let kids = kids-below key.kind k level w from end i ts t a low order e in
       rw (q, span) (ins-below k i ts _ t (f t.1) from _ _ a (a.is (λ u. (u.0, f u.1) ∷ [])) (puts.among w _ _ t.1 (omega arith) kids))

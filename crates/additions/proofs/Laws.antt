@@ -1,16 +1,16 @@
 -- What each loop keeps, and what each return gives. Assumes nothing.
+use Rattle.std.specs.Prelude.{Err, Ok, Some}
 use Prim.Native.Nat.{ℕ, ◌+◌, ◌-◌, ◌*◌, ◌≤◌, ◌<◌}
 use mathlib.Core.Path.{◌≡◌, refl, sym, ap, ◌∙◌, subst}
 use mathlib.Core.Bool.{Bool, true, false, ◌&&◌}
 use mathlib.Core.List.{List, [], ◌∷◌, ◌++◌, append-nil}
-use mathlib.Core.Option.{some}
 use native.Mathlib.Omega.{arith}
 use lib.ListN.{length, take, drop, set, replicate, length-append, length-take, length-drop, length-replicate}
 use lib.Seq.{take_at, drop_at, length-take-le, take_all}
 use lib.Dec.{leb}
 use borrow.Author.Tests.{le-leb, lt-leb}
 use Rattle.machine.specs.Lists.{concat_map}
-use Rattle.machine.specs.Answer.{Result, ok, refused, bad_name, edited_numbers}
+use Rattle.machine.specs.Answer.{Result, edited_numbers, position}
 use Rattle.machine.specs.Text.{Optional, chain_id, insertion_code, conformer_name, alternative_location, atom_name, optional}
 use Rattle.machine.specs.Record.{Words, words, finite, good_values}
 use Rattle.machine.specs.Store.{Branch, Machine, flat, records, stored, capacity, laid, lay_out, records_of}
@@ -18,30 +18,26 @@ use Rattle.machine.specs.Edit.{Addition, addition, named_atom, new_atom, accept,
 use Rattle.machine.specs.declared.NewAtom.{NewAtom}
 use Rattle.machine.specs.declared.Prepared.{Prepared}
 use Rattle.machine.specs.declared.PreparedAddition.{PreparedAddition}
-use Rattle.machine.specs.declared.Prepared.TheVariants.{Stored, Absent, Bad}
 use Rattle.machine.specs.declared.Name.{Name}
 use Rattle.machine.specs.declared.Name.TheVariants.{ChainId, InsertionCode, ConformerName, AlternativeLocation, AtomName}
 use Rattle.machine.specs.declared.Refusal.{Refusal}
 use Rattle.machine.specs.declared.Refusal.TheVariants.{NoPosition, BadValue, NoCapacity}
-use Rattle.machine.specs.declared.Edited as Edited
+use Rattle.laws.specs.Exits.{placed, nowhere}
 use Rattle.laws.specs.Lists.{All-append, All-left, All-right, sum-append}
 use Rattle.laws.specs.Grouped.{concat, concat-length, twelve-words}
 use Rattle.laws.specs.Layout.{laid-length, lay_out-read, records_of-lay_out, read_length, read-parts, records-read, length-parts}
 use Rattle.moves.specs.Over.{over, gapped, Twelve}
 use Rattle.moves.proofs.Laws.{over-at}
 use Rattle.moves.proofs.Records.{twelve-take, twelve-drop, blank, blank-twelve, insert-laid, write-laid, drop-records}
-use Rattle.seek.specs.Seek.{held, Good, Within, records_in, is_atom, atom_records, span, span_of}
+use Rattle.seek.specs.Seek.{held, Good, Within, records_in, is_atom, atom_records, span}
 use Rattle.seek.proofs.Below.{records_in-cons}
-use Rattle.seek.proofs.Laws.{records-count, atom_records-stored, at-span, Stands, stands, missing, stands-within, stands_records}
-use Rattle.seek.specs.declared.Span as Span
+use Rattle.seek.proofs.Laws.{records-count, atom_records-stored, Stands, stands, missing, stands-within, stands_records}
 use Rattle.insertion.specs.Cursor.{Valid, Lands, column, Grown, Advances}
 use Rattle.insertion.specs.Pick.{keys_of, spot_in, found_of}
 use Rattle.insertion.specs.declared.Cursor as Cursor
 use Rattle.insertion.specs.declared.Spot as Spot
 use Rattle.insertion.proofs.Spans.{model-inside, model-span}
-use Rattle.additions.specs.Add.{column_words, result_of, word_of, put}
-use Rattle.additions.specs.declared.Word as Word
-use Rattle.additions.specs.declared.Preparation as Preparation
+use Rattle.additions.specs.Add.{column_words, put}
 use Rattle.additions.proofs.Column.{Ins, puts-chains, ins-machine, ins-model}
 
 -- ---- new records in a store
@@ -89,7 +85,7 @@ module _ (w : List ℕ) (g : Good w) (m : Machine) (at : ℕ) (new : List Words)
       )
 
   put_full : (step : Machine → Result Change) → step (held w) ≡ fits (length w) m → (x y : ℕ) → x ≡ capacity (length w) → y ≡ length (records (held w)) + length new → x < y
-      → (edited_numbers (Edited.TheVariants.Refused NoCapacity), w) ≡ step_by w step
+      → (edited_numbers (Err NoCapacity), w) ≡ step_by w step
   unfolding step_by
   put_full step a x y e f l = rw (g, a, lt-leb (length (records m)) (capacity (length w)) (omega (arith, grown)))
 
@@ -112,7 +108,7 @@ module _ (w : List ℕ) (g : Good w) (m : Machine) (at : ℕ) (new : List Words)
       ∙ rw (front, back, s.is)
 
   put-done : (step : Machine → Result Change) → step (held w) ≡ fits (length w) m → (x y : ℕ) (s' : List ℕ) → x ≡ capacity (length w) → y ≡ length (records (held w)) + length new → y ≤ x → s' ≡ put at (length (records (held w))) (concat new) w
-      → (edited_numbers (Edited.TheVariants.Done 1 0), s') ≡ step_by w step
+      → (edited_numbers (Ok (record { found = 1; removed = 0 })), s') ≡ step_by w step
   unfolding step_by
   put-done step a x y s' e f l q =
       rw (g, a, le-leb (length (records m)) (capacity (length w)) (omega (arith, grown)), kept-atoms, q, put-words (put-fits x y e f l))
@@ -130,79 +126,57 @@ module _ (w : List ℕ) (g : Good w) (m : Machine) (at : ℕ) (new : List Words)
         number = omega arith;
       }
 
--- ---- word_of and prepare
+-- ---- prepare
 
-pub word-is : (p : Prepared) (w : ℕ) → p ≡ Stored w → Word.TheVariants.Is w ≡ word_of p
-word-is p w e = rw e
+-- what is accepted of a name that was prepared
+taken : (n : Name) {p q : Prepared} {r s : Result ℕ} → p ≡ q → r ≡ accept n p → r ≡ s → accept n q ≡ s
+taken n d f e = ap (accept n) (sym d) ∙ sym f ∙ e
 
-pub word-absent : (p : Prepared) → p ≡ Absent → Word.TheVariants.Is 0 ≡ word_of p
-word-absent p e = rw e
-
-pub word-bad : (p : Prepared) → p ≡ Bad → Word.TheVariants.Bad ≡ word_of p
-word-bad p e = rw e
-
--- what word_of tells of a prepared name
-accepted : (n : Name) {p q : Prepared} {r : Word.Word} {w : ℕ} → p ≡ q → r ≡ word_of p → r ≡ Word.TheVariants.Is w → accept n q ≡ ok w
-accepted n {p} {q} {r} {w} d e f = go q (ap word_of (sym d) ∙ sym e ∙ f)
-  where
-    go : (x : Prepared) → word_of x ≡ Word.TheVariants.Is w → accept n x ≡ ok w
-    go (Stored v) h = let z : v ≡ w = cc in rw z
-    go Absent h = let z : 0 ≡ w = cc in rw z
-    go Bad h = let z : ◌≡◌ {A = ℕ} 0 1 = cc in absurd (omega arith)
-
-declined : (n : Name) {p q : Prepared} {r : Word.Word} {x : Refusal} → p ≡ q → r ≡ word_of p → r ≡ Word.TheVariants.Bad → x ≡ bad_name n → accept n q ≡ refused x
-declined n {p} {q} {r} {x} d e f b = go q (ap word_of (sym d) ∙ sym e ∙ f)
-  where
-    go : (t : Prepared) → word_of t ≡ Word.TheVariants.Bad → accept n t ≡ refused x
-    go (Stored v) h = let z : ◌≡◌ {A = ℕ} 0 1 = cc in absurd (omega arith)
-    go Absent h = let z : ◌≡◌ {A = ℕ} 0 1 = cc in absurd (omega arith)
-    go Bad h = rw b
-
--- the first name that is bad, and all five: p is a name prepared, r its word
+-- the first name that is bad, and all five: p is a name prepared, r what is accepted of it
 module _ (chain : List ℕ) (residue : ℕ) (code : Optional) (conformer : List ℕ) (location : Optional) (name : List ℕ) (v : NewAtom)
-    (p₁ : Prepared) (r₁ : Word.Word) (d₁ : p₁ ≡ chain_id chain) (f₁ : r₁ ≡ word_of p₁) where
+    (p₁ : Prepared) (r₁ : Result ℕ) (d₁ : p₁ ≡ chain_id chain) (f₁ : r₁ ≡ accept ChainId p₁) where
   abbrev asked : Addition
   asked = addition chain residue code conformer location name v
 
-  pub bad-chain : (x : Refusal) → r₁ ≡ Word.TheVariants.Bad → x ≡ bad_name ChainId → refused x ≡ prepare asked
+  pub bad-chain : (x : Refusal) → r₁ ≡ Err x → Err x ≡ prepare asked
   unfolding prepare
-  bad-chain x b e = rw (declined ChainId d₁ f₁ b e)
+  bad-chain x b = rw (taken ChainId d₁ f₁ b)
 
-  module _ (w₁ : ℕ) (e₁ : r₁ ≡ Word.TheVariants.Is w₁) (p₂ : Prepared) (r₂ : Word.Word) (d₂ : p₂ ≡ optional insertion_code code) (f₂ : r₂ ≡ word_of p₂) where
-    c₁ : accept ChainId (chain_id chain) ≡ ok w₁
-    c₁ = accepted ChainId d₁ f₁ e₁
+  module _ (w₁ : ℕ) (e₁ : r₁ ≡ Ok w₁) (p₂ : Prepared) (r₂ : Result ℕ) (d₂ : p₂ ≡ optional insertion_code code) (f₂ : r₂ ≡ accept InsertionCode p₂) where
+    c₁ : accept ChainId (chain_id chain) ≡ Ok w₁
+    c₁ = taken ChainId d₁ f₁ e₁
 
-    pub bad-code : (x : Refusal) → r₂ ≡ Word.TheVariants.Bad → x ≡ bad_name InsertionCode → refused x ≡ prepare asked
+    pub bad-code : (x : Refusal) → r₂ ≡ Err x → Err x ≡ prepare asked
     unfolding prepare
-    bad-code x b e = rw (c₁, declined InsertionCode d₂ f₂ b e)
+    bad-code x b = rw (c₁, taken InsertionCode d₂ f₂ b)
 
-    module _ (w₂ : ℕ) (e₂ : r₂ ≡ Word.TheVariants.Is w₂) (p₃ : Prepared) (r₃ : Word.Word) (d₃ : p₃ ≡ conformer_name conformer) (f₃ : r₃ ≡ word_of p₃) where
-      c₂ : accept InsertionCode (optional insertion_code code) ≡ ok w₂
-      c₂ = accepted InsertionCode d₂ f₂ e₂
+    module _ (w₂ : ℕ) (e₂ : r₂ ≡ Ok w₂) (p₃ : Prepared) (r₃ : Result ℕ) (d₃ : p₃ ≡ conformer_name conformer) (f₃ : r₃ ≡ accept ConformerName p₃) where
+      c₂ : accept InsertionCode (optional insertion_code code) ≡ Ok w₂
+      c₂ = taken InsertionCode d₂ f₂ e₂
 
-      pub bad-conformer : (x : Refusal) → r₃ ≡ Word.TheVariants.Bad → x ≡ bad_name ConformerName → refused x ≡ prepare asked
+      pub bad-conformer : (x : Refusal) → r₃ ≡ Err x → Err x ≡ prepare asked
       unfolding prepare
-      bad-conformer x b e = rw (c₁, c₂, declined ConformerName d₃ f₃ b e)
+      bad-conformer x b = rw (c₁, c₂, taken ConformerName d₃ f₃ b)
 
-      module _ (w₃ : ℕ) (e₃ : r₃ ≡ Word.TheVariants.Is w₃) (p₄ : Prepared) (r₄ : Word.Word) (d₄ : p₄ ≡ optional alternative_location location) (f₄ : r₄ ≡ word_of p₄) where
-        c₃ : accept ConformerName (conformer_name conformer) ≡ ok w₃
-        c₃ = accepted ConformerName d₃ f₃ e₃
+      module _ (w₃ : ℕ) (e₃ : r₃ ≡ Ok w₃) (p₄ : Prepared) (r₄ : Result ℕ) (d₄ : p₄ ≡ optional alternative_location location) (f₄ : r₄ ≡ accept AlternativeLocation p₄) where
+        c₃ : accept ConformerName (conformer_name conformer) ≡ Ok w₃
+        c₃ = taken ConformerName d₃ f₃ e₃
 
-        pub bad-location : (x : Refusal) → r₄ ≡ Word.TheVariants.Bad → x ≡ bad_name AlternativeLocation → refused x ≡ prepare asked
+        pub bad-location : (x : Refusal) → r₄ ≡ Err x → Err x ≡ prepare asked
         unfolding prepare
-        bad-location x b e = rw (c₁, c₂, c₃, declined AlternativeLocation d₄ f₄ b e)
+        bad-location x b = rw (c₁, c₂, c₃, taken AlternativeLocation d₄ f₄ b)
 
-        module _ (w₄ : ℕ) (e₄ : r₄ ≡ Word.TheVariants.Is w₄) (p₅ : Prepared) (r₅ : Word.Word) (d₅ : p₅ ≡ atom_name name) (f₅ : r₅ ≡ word_of p₅) where
-          c₄ : accept AlternativeLocation (optional alternative_location location) ≡ ok w₄
-          c₄ = accepted AlternativeLocation d₄ f₄ e₄
+        module _ (w₄ : ℕ) (e₄ : r₄ ≡ Ok w₄) (p₅ : Prepared) (r₅ : Result ℕ) (d₅ : p₅ ≡ atom_name name) (f₅ : r₅ ≡ accept AtomName p₅) where
+          c₄ : accept AlternativeLocation (optional alternative_location location) ≡ Ok w₄
+          c₄ = taken AlternativeLocation d₄ f₄ e₄
 
-          pub bad-atom-name : (x : Refusal) → r₅ ≡ Word.TheVariants.Bad → x ≡ bad_name AtomName → refused x ≡ prepare asked
+          pub bad-atom-name : (x : Refusal) → r₅ ≡ Err x → Err x ≡ prepare asked
           unfolding prepare
-          bad-atom-name x b e = rw (c₁, c₂, c₃, c₄, declined AtomName d₅ f₅ b e)
+          bad-atom-name x b = rw (c₁, c₂, c₃, c₄, taken AtomName d₅ f₅ b)
 
-          pub all-ready : (w₅ : ℕ) → r₅ ≡ Word.TheVariants.Is w₅ → ok (record { chain = w₁; residue = residue; code = w₂; conformer = w₃; location = w₄; name = w₅; values = v }) ≡ prepare asked
+          pub all-ready : (w₅ : ℕ) → r₅ ≡ Ok w₅ → Ok (record { chain = w₁; residue = residue; code = w₂; conformer = w₃; location = w₄; name = w₅; values = v }) ≡ prepare asked
           unfolding prepare
-          all-ready w₅ e₅ = rw (c₁, c₂, c₃, c₄, accepted AtomName d₅ f₅ e₅)
+          all-ready w₅ e₅ = rw (c₁, c₂, c₃, c₄, taken AtomName d₅ f₅ e₅)
 
 -- ---- good_values
 
@@ -245,12 +219,12 @@ module _ (w : List ℕ) (g : Good w) (serial x count : ℕ) (e : x ≡ capacity 
   abbrev model : Branch 4
   model = (record { serial = serial }, [])
 
-  pub model-full : x < count + 1 → (edited_numbers (Edited.TheVariants.Refused NoCapacity), w) ≡ step_by w (add_model (length w) serial)
+  pub model-full : x < count + 1 → (edited_numbers (Err NoCapacity), w) ≡ step_by w (add_model (length w) serial)
   unfolding add_model flat
   model-full l = put_full w g _ _ _ (ins-model (held w) model) (add_model (length w) serial) refl x (count + 1) e (rw f) l
 
   pub model-done : (s' : List ℕ) → count + 1 ≤ x → s' ≡ put count count (1 ∷ serial ∷ 0 ∷ 0 ∷ 0 ∷ 0 ∷ 0 ∷ 0 ∷ 0 ∷ 0 ∷ 0 ∷ 0 ∷ []) w
-      → (edited_numbers (Edited.TheVariants.Done 1 0), s') ≡ step_by w (add_model (length w) serial)
+      → (edited_numbers (Ok (record { found = 1; removed = 0 })), s') ≡ step_by w (add_model (length w) serial)
   unfolding add_model flat words
   model-done s' l q =
       put-done w g _ _ _ (ins-model (held w) model) (add_model (length w) serial) refl x (count + 1) s' e (rw f) l (q ∙ rw f)
@@ -268,7 +242,7 @@ column-part a x l =
     rw d (take_all (48 - 12 * x) (concat (drop x col)) (omega arith))
 
 -- in the model whose span is known
-module _ (w : List ℕ) (g : Good w) (i start stop : ℕ) (e : span (i ∷ []) (held w) ≡ some (start, stop)) where
+module _ (w : List ℕ) (g : Good w) (i start stop : ℕ) (e : span (i ∷ []) (held w) ≡ Some (start, stop)) where
   stood : Stands 0 4 (i ∷ []) 0 (held w) start stop
   stood = stands 0 4 (i ∷ []) 0 (held w) start stop e
 
@@ -294,7 +268,7 @@ module _ (w : List ℕ) (g : Good w) (i start stop : ℕ) (e : span (i ∷ []) (
 
   module _ (new : PreparedAddition) (good : good_values (new_atom new) ≡ true) where
     abbrev outcome : List ℕ × List ℕ
-    outcome = step_by w (add_prepared (length w) i (ok new))
+    outcome = step_by w (add_prepared (length w) i (Ok new))
 
     abbrev after : Machine
     after = replace_at 0 4 (i ∷ []) ((there.0, into_chains new there.1) ∷ []) (held w)
@@ -308,7 +282,7 @@ module _ (w : List ℕ) (g : Good w) (i start stop : ℕ) (e : span (i ∷ []) (
         ins-machine i (held w) there _ (start + 1) _ _ stood.spot (omega arith) ((puts-chains new).among w (start + 1) stop there.1 long chains)
 
     module _ (s : Spot.Spot) (h : found_of s ≡ found) (lands : Lands start stop new.chain w s) (count : ℕ) (c : count ≡ length (records (held w))) where
-      atom-fits : add_prepared (length w) i (ok new) (held w) ≡ fits (length w) after
+      atom-fits : add_prepared (length w) i (Ok new) (held w) ≡ fits (length w) after
       unfolding add_prepared
       atom-fits = rw (stood.there, good)
 
@@ -318,7 +292,7 @@ module _ (w : List ℕ) (g : Good w) (i start stop : ℕ) (e : span (i ∷ []) (
       new-length : count + 4 - s.depth ≡ length (records (held w)) + length (drop s.depth (column new))
       new-length = omega (arith, lands.depth, length-drop s.depth (column new))
 
-      pub atom-full : (x : ℕ) → x ≡ capacity (length w) → x < count + 4 - s.depth → (edited_numbers (Edited.TheVariants.Refused NoCapacity), w) ≡ outcome
+      pub atom-full : (x : ℕ) → x ≡ capacity (length w) → x < count + 4 - s.depth → (edited_numbers (Err NoCapacity), w) ≡ outcome
       atom-full x d l = put_full w g after _ _ ins _ atom-fits x (count + 4 - s.depth) d new-length l
 
       module _ (x : ℕ) (d : x ≡ capacity (length w)) (l : count + 4 - s.depth ≤ x) where
@@ -330,33 +304,33 @@ module _ (w : List ℕ) (g : Good w) (i start stop : ℕ) (e : span (i ∷ []) (
           new-words : s' ≡ put s.at (length (records (held w))) (concat (drop s.depth (column new))) w
           new-words = let part = column-part new s.depth (omega (arith, lands.depth)) in y ∙ rw (k, part, c)
 
-          pub atom-done : (p q : Cursor.Cursor) → Valid p w → Advances p i start stop new s q → Valid q s' × ((edited_numbers (Edited.TheVariants.Done 1 0), s') ≡ outcome)
+          pub atom-done : (p q : Cursor.Cursor) → Valid p w → Advances p i start stop new s q → Valid q s' × ((edited_numbers (Ok (record { found = 1; removed = 0 })), s') ≡ outcome)
           atom-done p q known moves = (
             moves w s' g known (model-span w g i ∙ e) lands (put-grown w g after _ _ ins x (count + 4 - s.depth) s' d new-length l new-words),
             put-done w g after _ _ ins _ atom-fits x (count + 4 - s.depth) s' d new-length l new-words,
           )
 
 -- in the model at an index
-module _ (w : List ℕ) (g : Good w) (i : ℕ) (o : Preparation.Preparation) (r : Span.Span) (e : r ≡ span_of (span (i ∷ []) (held w))) where
+module _ (w : List ℕ) (g : Good w) (i : ℕ) (o : Result PreparedAddition) (r : Result (ℕ × ℕ)) (e : r ≡ position (span (i ∷ []) (held w))) where
   abbrev answer : List ℕ × List ℕ
-  answer = step_by w (add_prepared (length w) i (result_of o))
+  answer = step_by w (add_prepared (length w) i o)
 
-  pub atom-nowhere : r ≡ Span.TheVariants.Missing → (edited_numbers (Edited.TheVariants.Refused NoPosition), w) ≡ answer
+  pub atom-nowhere : ((x : ℕ × ℕ) → r ≡ Ok x → ⊥) → (edited_numbers (Err NoPosition), w) ≡ answer
   unfolding step_by add_prepared
-  atom-nowhere m = rw (g, missing 0 4 (i ∷ []) 0 (held w) (sym e ∙ m))
+  atom-nowhere f = rw (g, missing 0 4 (i ∷ []) 0 (held w) (nowhere (span (i ∷ []) (held w)) r e f))
 
-  module _ (start stop : ℕ) (m : r ≡ Span.TheVariants.At start stop) where
-    model-spans : span (i ∷ []) (held w) ≡ some (start, stop)
-    model-spans = at-span (span (i ∷ []) (held w)) start stop (sym e ∙ m)
+  module _ (start stop : ℕ) (m : r ≡ Ok (start, stop)) where
+    model-spans : span (i ∷ []) (held w) ≡ Some (start, stop)
+    model-spans = placed (span (i ∷ []) (held w)) r (start, stop) e m
 
-    pub atom-unnamed : (x : Refusal) → o ≡ Preparation.TheVariants.Refused x → (edited_numbers (Edited.TheVariants.Refused x), w) ≡ answer
+    pub atom-unnamed : (x : Refusal) → o ≡ Err x → (edited_numbers (Err x), w) ≡ answer
     unfolding step_by add_prepared
     atom-unnamed x z = rw (g, (stood w g i start stop model-spans).there, z)
 
-    module _ (new : PreparedAddition) (z : o ≡ Preparation.TheVariants.Ready new) where
-      pub atom-bad : (b : Bool) → b ≡ good_values (new_atom new) → b ≡ false → (edited_numbers (Edited.TheVariants.Refused BadValue), w) ≡ answer
+    module _ (new : PreparedAddition) (z : o ≡ Ok new) where
+      pub atom-bad : (b : Bool) → b ≡ good_values (new_atom new) → b ≡ false → (edited_numbers (Err BadValue), w) ≡ answer
       unfolding step_by add_prepared
       atom-bad b f t = rw (g, (stood w g i start stop model-spans).there, z, ← f, t)
 
-      pub atom-ready : {x : List ℕ × List ℕ} → x ≡ step_by w (add_prepared (length w) i (ok new)) → x ≡ answer
+      pub atom-ready : {x : List ℕ × List ℕ} → x ≡ step_by w (add_prepared (length w) i (Ok new)) → x ≡ answer
       atom-ready a = a ∙ rw z

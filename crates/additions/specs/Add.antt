@@ -1,23 +1,7 @@
 -- What the contracts of `src/` cite: an addition's arguments, and the records put in. Assumes nothing.
 use Rattle.std.specs.Prelude.{ℕ, ◌+◌, ◌-◌, ◌*◌, List, [], ◌∷◌, ◌++◌, length, set, replicate}
-use Rattle.machine.specs.Answer.{Result, ok, refused}
-use Rattle.machine.specs.declared.Prepared.{Prepared}
-use Rattle.machine.specs.declared.Prepared.TheVariants.{Stored, Absent, Bad}
 use Rattle.machine.specs.declared.PreparedAddition.{PreparedAddition}
 use Rattle.moves.specs.Over.{over, gapped}
-use Rattle.additions.specs.declared.Word as Word
-use Rattle.additions.specs.declared.Preparation as Preparation
-
--- ---- the arguments
-
-abbrev pub word_of : Prepared → Word.Word
-word_of (Stored w) = Word.TheVariants.Is w
-word_of Absent = Word.TheVariants.Is 0
-word_of Bad = Word.TheVariants.Bad
-
-abbrev pub result_of : Preparation.Preparation → Result PreparedAddition
-result_of (Preparation.TheVariants.Ready a) = ok a
-result_of (Preparation.TheVariants.Refused r) = refused r
 
 -- ---- the new records
 

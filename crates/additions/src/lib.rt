@@ -2,46 +2,31 @@
 // by one move of the words behind them. A refusal writes nothing. `insertion` finds where they go.
 #![tactic(auto)]
 
-ghost use Rattle.std.specs.Prelude.{◌≡◌, ◌+◌, ◌*◌, ◌≤◌, ◌<◌, length, true, [], ◌∷◌};
-ghost use Rattle.machine.specs.Answer.{ok, edited_numbers};
+ghost use Rattle.std.specs.Prelude.{◌≡◌, ◌+◌, ◌*◌, ◌≤◌, ◌<◌, length, true, [], ◌∷◌, Ok, Some};
+ghost use Rattle.machine.specs.Answer.{edited_numbers};
 ghost use Rattle.machine.specs.Text.{optional_of};
 ghost use Rattle.machine.specs.Record.{good_values};
 ghost use Rattle.machine.specs.Store.{capacity};
-ghost use Rattle.std.proofs.Math.Option.{some};
-ghost use Rattle.machine.specs.Edit.{addition, new_atom, prepare, add_model, add_prepared, step_by};
+ghost use Rattle.machine.specs.Edit.{accept, addition, new_atom, prepare, add_model, add_prepared, step_by};
 ghost use Rattle.seek.specs.Seek.{Good, held, span};
 ghost use Rattle.insertion.specs.Cursor.{Valid};
-ghost use Rattle.additions.specs.Add.{word_of, result_of, column_words, put};
+ghost use Rattle.additions.specs.Add.{column_words, put};
 
 use elements::Element;
 use insertion::Cursor;
 use machine::{Edited, Name, NewAtom, Prepared, PreparedAddition, Record, Refusal};
-use seek::Span;
 
 // ---- the arguments
 
-#[derive(Clone, Copy)]
-enum Word {
-    Is(u64),
-    Bad,
-}
-
 // What is absent is stored as 0.
-fn word_of(prepared: Prepared) -> Word
-    ensures { result ≡ word_of prepared }
+fn accept(name: Name, prepared: Prepared) -> Result<u64, Refusal>
+    ensures { result ≡ accept name prepared }
 {
     match prepared {
-        Prepared::Stored(w) => Word::Is(w),
-        Prepared::Absent => Word::Is(0),
-        Prepared::Bad => Word::Bad,
+        Prepared::Stored(w) => Ok(w),
+        Prepared::Absent => Ok(0),
+        Prepared::Bad => Err(name.into()),
     }
-}
-
-// An addition that is prepared, or its refusal.
-#[derive(Clone, Copy)]
-pub enum Preparation {
-    Ready(PreparedAddition),
-    Refused(Refusal),
 }
 
 // The first bad name, of chain, code, conformer, location and atom name, is the one that is answered. No text goes further than this.
@@ -55,34 +40,30 @@ pub fn prepare(
     location: &[u8],
     name: &[u8],
     values: NewAtom,
-) -> Preparation
-    ensures { result_of result ≡ prepare (addition chain.now residue (optional_of code_flag code.now)
+) -> Result<PreparedAddition, Refusal>
+    ensures { result ≡ prepare (addition chain.now residue (optional_of code_flag code.now)
         conformer.now (optional_of location_flag location.now) name.now values) }
 {
-    let Word::Is(chain) = word_of(helper::prepare_chain_id(chain)) else {
-        return Preparation::Refused(answers::bad_name(Name::ChainId));
-    };
-    let Word::Is(code) = word_of(helper::prepare_optional_code(code_flag, code)) else {
-        return Preparation::Refused(answers::bad_name(Name::InsertionCode));
-    };
-    let Word::Is(conformer) = word_of(helper::prepare_identifier_uppercase(conformer)) else {
-        return Preparation::Refused(answers::bad_name(Name::ConformerName));
-    };
+    let chain = accept(Name::ChainId, helper::prepare_chain_id(chain))?;
+    let code = accept(
+        Name::InsertionCode,
+        helper::prepare_optional_code(code_flag, code),
+    )?;
+    let conformer = accept(
+        Name::ConformerName,
+        helper::prepare_identifier_uppercase(conformer),
+    )?;
     let prepared = helper::prepare_optional_location(location_flag, location);
-    let Word::Is(location) = word_of(prepared) else {
-        return Preparation::Refused(answers::bad_name(Name::AlternativeLocation));
-    };
-    let Word::Is(name) = word_of(helper::prepare_atom_name(name)) else {
-        return Preparation::Refused(answers::bad_name(Name::AtomName));
-    };
-    Preparation::Ready(PreparedAddition {
-        chain: chain,
-        residue: residue,
-        code: code,
-        conformer: conformer,
-        location: location,
-        name: name,
-        values: values,
+    let location = accept(Name::AlternativeLocation, prepared)?;
+    let name = accept(Name::AtomName, helper::prepare_atom_name(name))?;
+    Ok(PreparedAddition {
+        chain,
+        residue,
+        code,
+        conformer,
+        location,
+        name,
+        values,
     })
 }
 
@@ -160,23 +141,26 @@ fn put_records(store: &mut [u64], at: usize, count: usize, new: &[u64])
 // ---- the edits
 
 // Appended, with the serial given.
-pub fn add_model(store: &mut [u64], serial: u64) -> Edited
+pub fn add_model(store: &mut [u64], serial: u64) -> Result<Edited, Refusal>
     requires { Good store.old }
     ensures { (edited_numbers result, store.new) ≡ step_by store.old (add_model (length store.old) serial) }
 {
     let count = seek::record_count(store);
     if capacity_of(store) < count + 1 {
-        return Edited::Refused(Refusal::NoCapacity);
+        return Err(Refusal::NoCapacity);
     }
     let record = [Record::MODEL, serial, 0, 0, 0, 0, 0, 0, 0, 0, 0, 0];
     put_records(store, count, count, &record);
-    Edited::Done(1, 0)
+    Ok(Edited {
+        found: 1,
+        removed: 0,
+    })
 }
 
 // An answer, and where the next addition may go on.
 #[derive(Clone, Copy)]
 pub struct Added {
-    pub edited: Edited,
+    pub edited: Result<Edited, Refusal>,
     pub cursor: Cursor,
 }
 
@@ -191,11 +175,11 @@ fn put_atom(
 ) -> Added
     requires good { Good store.old }
     requires valid { Valid cursor store.old }
-    requires span_held { span (model ∷ []) (held store.old) ≡ some (start, end) }
+    requires span_held { span (model ∷ []) (held store.old) ≡ Some (start, end) }
     requires values_good { good_values (new_atom new) ≡ true }
     ensures cursor_valid { Valid result.cursor store.new }
     ensures store_after { (edited_numbers result.edited, store.new)
-        ≡ step_by store.old (add_prepared (length store.old) model (ok new)) }
+        ≡ step_by store.old (add_prepared (length store.old) model (Ok new)) }
 {
     let count = seek::record_count(store);
     let spot = insertion::spot_of(store, cursor, start, end, new);
@@ -203,7 +187,7 @@ fn put_atom(
     let first = Record::WIDTH * spot.depth;
     if capacity_of(store) < count + 4 - spot.depth {
         return Added {
-            edited: Edited::Refused(Refusal::NoCapacity),
+            edited: Err(Refusal::NoCapacity),
             cursor: cursor,
         };
     }
@@ -211,47 +195,59 @@ fn put_atom(
     put_records(store, at, count, &column[first..]);
     let next = insertion::advanced(cursor, model, start, end, new, spot);
     Added {
-        edited: Edited::Done(1, 0),
+        edited: Ok(Edited {
+            found: 1,
+            removed: 0,
+        }),
         cursor: next,
     }
 }
 
 // An atom, to the model at an index: "5" comes before what the preparation refuses.
-pub fn add_prepared(store: &mut [u64], cursor: Cursor, model: u64, prepared: Preparation) -> Added
+pub fn add_prepared(
+    store: &mut [u64],
+    cursor: Cursor,
+    model: u64,
+    prepared: Result<PreparedAddition, Refusal>,
+) -> Added
     requires good { Good store.old }
     requires valid { Valid cursor store.old }
     ensures cursor_valid { Valid result.cursor store.new }
     ensures store_after { (edited_numbers result.edited, store.new)
-        ≡ step_by store.old (add_prepared (length store.old) model (result_of prepared)) }
+        ≡ step_by store.old (add_prepared (length store.old) model prepared) }
 {
-    let Span::At(start, end) = insertion::model_span(store, cursor, model) else {
+    let Ok((start, end)) = insertion::model_span(store, cursor, model) else {
         return Added {
-            edited: Edited::Refused(Refusal::NoPosition),
+            edited: Err(Refusal::NoPosition),
             cursor: cursor,
         };
     };
     match prepared {
-        Preparation::Ready(new) => {
+        Ok(new) => {
             if good_values(new) {
                 return put_atom(store, cursor, model, start, end, new);
             }
             Added {
-                edited: Edited::Refused(Refusal::BadValue),
+                edited: Err(Refusal::BadValue),
                 cursor: cursor,
             }
         }
-        Preparation::Refused(refusal) => Added {
-            edited: Edited::Refused(refusal),
+        Err(refusal) => Added {
+            edited: Err(refusal),
             cursor: cursor,
         },
     }
 }
 
 // Without a cursor.
-pub fn add_atom(store: &mut [u64], model: u64, prepared: Preparation) -> Edited
+pub fn add_atom(
+    store: &mut [u64],
+    model: u64,
+    prepared: Result<PreparedAddition, Refusal>,
+) -> Result<Edited, Refusal>
     requires { Good store.old }
     ensures { (edited_numbers result, store.new)
-        ≡ step_by store.old (add_prepared (length store.old) model (result_of prepared)) }
+        ≡ step_by store.old (add_prepared (length store.old) model prepared) }
 {
     let added = add_prepared(store, insertion::no_cursor(), model, prepared);
     added.edited

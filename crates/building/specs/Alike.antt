@@ -1,9 +1,8 @@
 -- What a text builds where every atom is changed, and nothing else: the same branches with the changed atoms. Assumes nothing.
-use Rattle.std.specs.Prelude.{ℕ, zero, suc, ◌≡◌, refl, Bool, true, List, [], ◌∷◌, ◌++◌, map, length}
+use Rattle.std.specs.Prelude.{ℕ, zero, suc, ◌≡◌, refl, Bool, true, List, [], ◌∷◌, ◌++◌, map, length, None, Option, Some}
 use Rattle.std.proofs.Common.{sym, ap, ◌∙◌, arith, length-append}
 use Rattle.std.proofs.lemmas.List.{map-append}
 use Rattle.std.proofs.lemmas.Simd.{map-map}
-use Rattle.std.proofs.Math.Option.{Option, none, some}
 use Rattle.machine.specs.Lists.{concat_map, first_where, last_where}
 use Rattle.machine.specs.Record.{Atom}
 use Rattle.machine.specs.Store.{Branch, Machine, flat, records}
@@ -66,8 +65,8 @@ insert-alike (suc k) f p ts =
 
     go : ((us : List (Branch k)) → insert k q (map (map_atoms k f) us) ≡ map (map_atoms k f) (insert k p.1 us)) → (o : Option ℕ)
         → put_in o (λ t. (t.0, insert k q t.1)) (p.0, insert k q []) (map M ts) ≡ map M (put_in o (λ t. (t.0, insert k p.1 t.1)) (p.0, insert k p.1 []) ts)
-    go r none = ap (λ (us : List (Branch k)). map M ts ++ ((p.0, us) ∷ [])) (r []) ∙ sym (map-append M ts ((p.0, insert k p.1 []) ∷ []))
-    go r (some i) = change-map M i (λ t. (t.0, insert k p.1 t.1)) (λ t. (t.0, insert k q t.1)) (λ t. ap (λ (us : List (Branch k)). (t.0, us)) (r t.1)) ts
+    go r None = ap (λ (us : List (Branch k)). map M ts ++ ((p.0, us) ∷ [])) (r []) ∙ sym (map-append M ts ((p.0, insert k p.1 []) ∷ []))
+    go r (Some i) = change-map M i (λ t. (t.0, insert k p.1 t.1)) (λ t. (t.0, insert k q t.1)) (λ t. ap (λ (us : List (Branch k)). (t.0, us)) (r t.1)) ts
 
 lines-alike : (f : Atom → Atom) (ls : List AtomLine) (ts : List (Branch 3)) → into_all (map (on_atom f) ls) (map (map_atoms 3 f) ts) ≡ map (map_atoms 3 f) (into_all ls ts)
 lines-alike f [] ts = refl

@@ -1,11 +1,10 @@
 -- The atoms of a model may be added chain by chain: additions to different chains commute but for the order in which chains begin. Assumes nothing.
-use Rattle.std.specs.Prelude.{ℕ, zero, suc, ◌≡◌, Bool, ◌||◌, cond}
+use Rattle.std.specs.Prelude.{ℕ, zero, suc, ◌≡◌, Bool, ◌||◌, cond, None, Option, Some}
 use Rattle.std.proofs.Math.Path.{refl, sym, ap, subst}
 use Rattle.std.proofs.Common.{◌∙◌, le_refl, arith}
 use Rattle.std.proofs.Math.Bool.{true, false}
 use Rattle.std.proofs.lemmas.Bool.{false≢true}
 use mathlib.Core.List.{List, [], ◌∷◌, ◌++◌, map, map-append}
-use Rattle.std.proofs.Math.Option.{Option, none, some}
 use Rattle.machine.specs.Lists.{all, any, nth, keep, filter}
 use Rattle.machine.specs.Record.{Fields, Chain}
 use Rattle.machine.specs.Store.{Branch}
@@ -51,7 +50,7 @@ module _ {A : Type 0} (p : A → Bool) where
   any_last [] y h = rw h
   any_last (x ∷ xs) y h = rw (any_last xs y h) (or_right (p x))
 
-  any_at : (i : ℕ) (xs : List A) (x : A) → nth i xs ≡ some x → p x ≡ true → any p xs ≡ true
+  any_at : (i : ℕ) (xs : List A) (x : A) → nth i xs ≡ Some x → p x ≡ true → any p xs ≡ true
   any_at i [] x e h = let z : ◌≡◌ {A = ℕ} 0 1 = cc in absurd (omega arith)
   any_at zero (y ∷ xs) x e h = let q : y ≡ x = cc in rw (q, h)
   any_at (suc i) (y ∷ xs) x e h = rw (any_at i xs x e h) (or_right (p y))
@@ -65,12 +64,12 @@ module _ {A : Type 0} (p : A → Bool) where
   none_passes [] h = refl
   none_passes (x ∷ xs) h = rw h.0 (none_passes xs h.1)
 
-  picked : (w : Which) (xs : List A) → any p xs ≡ true → (i : ℕ) × (pick w p xs ≡ some i)
+  picked : (w : Which) (xs : List A) → any p xs ≡ true → (i : ℕ) × (pick w p xs ≡ Some i)
   picked w xs h = go (pick w p xs) refl (pick-seen p w xs)
     where
-      go : (o : Option ℕ) → pick w p xs ≡ o → Seen p xs o → (i : ℕ) × (pick w p xs ≡ some i)
-      go none e s = absurd (false≢true (sym (none_passes xs s) ∙ h))
-      go (some i) e s = (i, e)
+      go : (o : Option ℕ) → pick w p xs ≡ o → Seen p xs o → (i : ℕ) × (pick w p xs ≡ Some i)
+      go None e s = absurd (false≢true (sym (none_passes xs s) ∙ h))
+      go (Some i) e s = (i, e)
 
 -- ---- two changes commute
 
@@ -82,7 +81,7 @@ module _ {A : Type 0} where
   change-both (suc i) zero f g n (x ∷ xs) = refl
   change-both (suc i) (suc j) f g n (x ∷ xs) = ap (λ (z : List A). x ∷ z) (change-both i j f g (λ e. n (ap suc e)) xs)
 
-  change-append : (i : ℕ) (f : A → A) (xs ys : List A) (x : A) → nth i xs ≡ some x → change i f (xs ++ ys) ≡ change i f xs ++ ys
+  change-append : (i : ℕ) (f : A → A) (xs ys : List A) (x : A) → nth i xs ≡ Some x → change i f (xs ++ ys) ≡ change i f xs ++ ys
   change-append i f [] ys x e = let z : ◌≡◌ {A = ℕ} 0 1 = cc in absurd (omega arith)
   change-append zero f (y ∷ xs) ys x e = refl
   change-append (suc i) f (y ∷ xs) ys x e = ap (λ (z : List A). y ∷ z) (change-append i f xs ys x e)
@@ -106,37 +105,37 @@ module _ (k : ℕ) (w : Which) (p q : Fields (suc k) → Bool) (a b : Fields (su
   stays ts h = go (pick w Q ts)
     where
       go : (o : Option ℕ) → any P (put_in o G (b, g []) ts) ≡ true
-      go none = any_left P ts ((b, g []) ∷ []) h
-      go (some j) = any-change P G (λ t. refl) j ts ∙ h
+      go None = any_left P ts ((b, g []) ∷ []) h
+      go (Some j) = any-change P G (λ t. refl) j ts ∙ h
 
   begins : q b ≡ true → (ts : List (Branch (suc k))) → any Q (upsert k w q b g ts) ≡ true
   unfolding upsert
   begins self ts = go (pick w Q ts) (pick-seen Q w ts)
     where
       go : (o : Option ℕ) → Seen Q ts o → any Q (put_in o G (b, g []) ts) ≡ true
-      go none s = any_last Q ts (b, g []) self
-      go (some j) s = any-change Q G (λ t. refl) j ts ∙ any_at Q j ts s.0 s.1 s.2
+      go None s = any_last Q ts (b, g []) self
+      go (Some j) s = any-change Q G (λ t. refl) j ts ∙ any_at Q j ts s.0 s.1 s.2
 
   upsert-both : ((x : Fields (suc k)) → p x ≡ true → q x ≡ false) → p b ≡ false → (ts : List (Branch (suc k))) → any P ts ≡ true
       → upsert k w q b g (upsert k w p a f ts) ≡ upsert k w p a f (upsert k w q b g ts)
   unfolding upsert
   upsert-both apart miss ts h = go (picked P w ts h)
     where
-      go : ((i : ℕ) × (pick w P ts ≡ some i)) → put_in (pick w Q (put_in (pick w P ts) F (a, f []) ts)) G (b, g []) (put_in (pick w P ts) F (a, f []) ts)
+      go : ((i : ℕ) × (pick w P ts ≡ Some i)) → put_in (pick w Q (put_in (pick w P ts) F (a, f []) ts)) G (b, g []) (put_in (pick w P ts) F (a, f []) ts)
           ≡ put_in (pick w P (put_in (pick w Q ts) G (b, g []) ts)) F (a, f []) (put_in (pick w Q ts) G (b, g []) ts)
       go (i, e) =
           ap (λ (o : Option ℕ). put_in (pick w Q (put_in o F (a, f []) ts)) G (b, g []) (put_in o F (a, f []) ts)) e
           ∙ ap (λ (o : Option ℕ). put_in o G (b, g []) (change i F ts)) (pick-change Q F (λ t. refl) w i ts)
           ∙ each (pick w Q ts) (pick-seen Q w ts)
         where
-          seen : Seen P ts (some i)
+          seen : Seen P ts (Some i)
           seen = subst (Seen P ts) e (pick-seen P w ts)
 
           each : (o : Option ℕ) → Seen Q ts o → put_in o G (b, g []) (change i F ts) ≡ put_in (pick w P (put_in o G (b, g []) ts)) F (a, f []) (put_in o G (b, g []) ts)
-          each none s =
+          each None s =
               sym (change-append i F ts ((b, g []) ∷ []) seen.0 seen.1)
               ∙ ap (λ (o : Option ℕ). put_in o F (a, f []) (ts ++ ((b, g []) ∷ []))) (sym (pick-miss P (b, g []) miss w ts ∙ e))
-          each (some j) s =
+          each (Some j) s =
               sym (change-both i j F G (picks-apart P Q (λ x. apart x.0) ts i j seen s) ts)
               ∙ ap (λ (o : Option ℕ). put_in o F (a, f []) (change j G ts)) (sym (pick-change P G (λ t. refl) w j ts ∙ e))
 

@@ -1,9 +1,8 @@
 -- How many records additions make, by the lines alone. Assumes nothing.
-use Rattle.std.specs.Prelude.{ℕ, zero, suc, ◌+◌, ◌≤◌, min, ◌≡◌, Bool, true, false, cond}
+use Rattle.std.specs.Prelude.{ℕ, zero, suc, ◌+◌, ◌≤◌, min, ◌≡◌, Bool, true, false, cond, None, Option, Some, option_map}
 use Rattle.std.proofs.Math.Path.{refl, ap}
 use Rattle.std.proofs.Common.{sym, ◌∙◌, le_refl, add-zero, zero-add}
 use mathlib.Core.List.{List, [], ◌∷◌, ◌++◌}
-use Rattle.std.proofs.Math.Option.{Option, none, some, map}
 use native.Mathlib.Omega.{arith}
 use Rattle.std.proofs.Math.ListN.{length}
 use Rattle.machine.specs.Lists.{nth, and_then, sum}
@@ -22,8 +21,8 @@ use Rattle.building.specs.Build.{Item, item_of, which_at, insert, into, into-is,
 
 -- all n where nothing is chosen; else those that are missing below
 abbrev missing : (k : ℕ) → ℕ → (List (Branch k) → ℕ) → Option (Branch (suc k)) → ℕ
-missing k n m none = n
-missing k n m (some t) = m t.1
+missing k n m None = n
+missing k n m (Some t) = m t.1
 
 abbrev makes : (k : ℕ) → Item k → List (Branch k) → ℕ
 makes zero a us = 1
@@ -44,8 +43,8 @@ module _ (k : ℕ) (w : Which) (n : ℕ) (m : List (Branch k) → ℕ) (top : (u
   put t = (t.0, f t.1)
 
   made-top : (o : Option (Branch (suc k))) → missing k n m o ≤ n
-  made-top none = le_refl n
-  made-top (some t) = top t.1
+  made-top None = le_refl n
+  made-top (Some t) = top t.1
 
   -- after an addition under another id: as before
   differs : ((x : Fields (suc k)) → p x ≡ true → q x ≡ false) → p new ≡ true → (ts : List (Branch (suc k))) → made (upsert k w p new f ts) ≡ min n (made ts)
@@ -53,8 +52,8 @@ module _ (k : ℕ) (w : Which) (n : ℕ) (m : List (Branch k) → ℕ) (top : (u
   differs apart self ts = ap (missing k n m) (go (pick w P ts) refl) ∙ same-min (made ts) n (made-top (chosen w Q ts))
     where
       go : (o : Option ℕ) → pick w P ts ≡ o → chosen w Q (put_in o put (new, f []) ts) ≡ chosen w Q ts
-      go none e = chosen-miss Q (new, f []) (apart new self) w ts
-      go (some i) e = chosen-other P Q put (λ x. refl) (λ x. apart x.0) w ts i e
+      go None e = chosen-miss Q (new, f []) (apart new self) w ts
+      go (Some i) e = chosen-other P Q put (λ x. refl) (λ x. apart x.0) w ts i e
 
       same-min : (a b : ℕ) → a ≤ b → a ≡ min b a
       same-min a b h = omega arith
@@ -68,31 +67,31 @@ module _ (k : ℕ) (w : Which) (n : ℕ) (m : List (Branch k) → ℕ) (top : (u
       was : (o : Option ℕ) → pick w P ts ≡ o → made ts ≡ missing k n m (and_then o (λ i. nth i ts))
       was o e = ap (λ (z : Option ℕ). missing k n m (and_then z (λ i. nth i ts))) (pick-agree (λ x. agree x.0) w ts ∙ e)
 
-      fresh : All (λ t. P t ≡ false) ts → pick w Q (ts ++ ((new, f []) ∷ [])) ≡ some (length ts)
+      fresh : All (λ t. P t ≡ false) ts → pick w Q (ts ++ ((new, f []) ∷ [])) ≡ Some (length ts)
       fresh h = pick-agree (λ x. agree x.0) w (ts ++ ((new, f []) ∷ [])) ∙ pick_end P w ts (new, f []) h self
 
       both : (a b c : ℕ) → c ≤ a → a ≤ b → min c a ≡ min c b
       both a b c h l = omega arith
 
       go : (o : Option ℕ) → pick w P ts ≡ o → Seen P ts o → made (put_in o put (new, f []) ts) ≡ min lower (made ts)
-      go none e h =
+      go None e h =
           ap (λ (z : Option ℕ). missing k n m (and_then z (λ i. nth i (ts ++ ((new, f []) ∷ []))))) (fresh h)
           ∙ ap (missing k n m) (nth_end ts (new, f []))
           ∙ step []
           ∙ both (m []) n lower less (top [])
-          ∙ ap (min lower) (sym (was none e))
-      go (some i) e h =
-          ap (missing k n m) (chosen-same P Q put (λ x. refl) (λ x. agree x.0) w ts i e ∙ ap (map put) h.1)
+          ∙ ap (min lower) (sym (was None e))
+      go (Some i) e h =
+          ap (missing k n m) (chosen-same P Q put (λ x. refl) (λ x. agree x.0) w ts i e ∙ ap (option_map put) h.1)
           ∙ step h.0.1
-          ∙ ap (min lower) (sym (was (some i) e ∙ ap (missing k n m) h.1))
+          ∙ ap (min lower) (sym (was (Some i) e ∙ ap (missing k n m) h.1))
 
 makes-top : (k : ℕ) (p : Item k) (ts : List (Branch k)) → makes k p ts ≤ suc k
 makes-top zero p ts = le_refl 1
 makes-top (suc k) p ts = go (makes-top k p.1) (chosen (which_at k) (λ t. same_id k p.0 t.0) ts)
   where
     go : ((us : List (Branch k)) → makes k p.1 us ≤ suc k) → (o : Option (Branch (suc k))) → missing k (suc (suc k)) (makes k p.1) o ≤ suc (suc k)
-    go r none = le_refl (suc (suc k))
-    go r (some t) = let h = r t.1 in omega arith
+    go r None = le_refl (suc (suc k))
+    go r (Some t) = let h = r t.1 in omega arith
 
 makes-all : (k : ℕ) (p : Item k) → makes k p [] ≡ suc k
 makes-all zero p = refl
@@ -152,11 +151,11 @@ module _ (k : ℕ) (w : Which) (m : List (Branch k) → ℕ) (p : Fields (suc k)
     where
       go : (o : Option ℕ) → Seen (λ t. p t.0) ts o
           → sizes (suc k) (put_in o (λ t. (t.0, f t.1)) (new, f []) ts) ≡ sizes (suc k) ts + missing k (suc (m [])) m (and_then o (λ i. nth i ts))
-      go none h =
+      go None h =
           let s = size_of k (new, f []) in
           let e = step [] in
           omega (arith, sum-append (λ t. length (flat (suc k) t)) ts ((new, f []) ∷ []))
-      go (some i) h =
+      go (Some i) h =
           let t = h.0 in
           let s = splice-sum (λ u. length (flat (suc k) u)) i (λ u. (u.0, f u.1) ∷ []) ts t h.1 in
           let a = size_of k t in

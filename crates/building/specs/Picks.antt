@@ -1,8 +1,7 @@
 -- Which of some elements an addition picks, before and after a change. Assumes nothing.
-use Rattle.std.specs.Prelude.{ℕ, zero, suc, ◌≡◌, refl, Bool, true, false, cond, List, [], ◌∷◌, ◌++◌, length}
+use Rattle.std.specs.Prelude.{ℕ, zero, suc, ◌≡◌, refl, Bool, true, false, cond, List, [], ◌∷◌, ◌++◌, length, None, Option, Some, option_map}
 use Rattle.std.proofs.Common.{sym, ap, ◌∙◌, subst, arith}
 use Rattle.std.proofs.lemmas.Bool.{false≢true}
-use Rattle.std.proofs.Math.Option.{Option, none, some, map}
 use Rattle.machine.specs.Lists.{nth, splice, first_where, last_where, or_else, and_then}
 use Rattle.machine.specs.Edit.{Which, first, last, pick}
 use Rattle.laws.specs.Lists.{All}
@@ -16,7 +15,7 @@ module _ {A : Type 0} where
   abbrev pub chosen : Which → (A → Bool) → List A → Option A
   chosen w q xs = and_then (pick w q xs) (λ i. nth i xs)
 
-  some_same : {x y : A} → some x ≡ some y → x ≡ y
+  some_same : {x y : A} → Some x ≡ Some y → x ≡ y
   some_same e = cc
 
   -- ---- tests that agree
@@ -37,27 +36,27 @@ module _ {A : Type 0} where
   -- ---- what is picked passes the test; where nothing is, nothing does
 
   abbrev pub Seen : (A → Bool) → List A → Option ℕ → Type 0
-  Seen q xs none = All (λ x. q x ≡ false) xs
-  Seen q xs (some i) = (x : A) × (nth i xs ≡ some x) × (q x ≡ true)
+  Seen q xs None = All (λ x. q x ≡ false) xs
+  Seen q xs (Some i) = (x : A) × (nth i xs ≡ Some x) × (q x ≡ true)
 
   module _ (q : A → Bool) where
     first-seen : (xs : List A) → Seen q xs (first_where q xs)
     first-seen [] = tt
     first-seen (x ∷ xs) = go (q x) refl (first_where q xs) (first-seen xs)
       where
-        go : (b : Bool) → q x ≡ b → (o : Option ℕ) → Seen q xs o → Seen q (x ∷ xs) (cond b (some 0) (map suc o))
+        go : (b : Bool) → q x ≡ b → (o : Option ℕ) → Seen q xs o → Seen q (x ∷ xs) (cond b (Some 0) (option_map suc o))
         go true e o h = (x, refl, e)
-        go false e none h = (e, h)
-        go false e (some i) h = h
+        go false e None h = (e, h)
+        go false e (Some i) h = h
 
     last-seen : (xs : List A) → Seen q xs (last_where q xs)
     last-seen [] = tt
     last-seen (x ∷ xs) = go (q x) refl (last_where q xs) (last-seen xs)
       where
-        go : (b : Bool) → q x ≡ b → (o : Option ℕ) → Seen q xs o → Seen q (x ∷ xs) (or_else (map suc o) (cond b (some 0) none))
-        go b e (some i) h = h
-        go true e none h = (x, refl, e)
-        go false e none h = (e, h)
+        go : (b : Bool) → q x ≡ b → (o : Option ℕ) → Seen q xs o → Seen q (x ∷ xs) (or_else (option_map suc o) (cond b (Some 0) None))
+        go b e (Some i) h = h
+        go true e None h = (x, refl, e)
+        go false e None h = (e, h)
 
     pub pick-seen : (w : Which) (xs : List A) → Seen q xs (pick w q xs)
     pick-seen first xs = first-seen xs
@@ -66,34 +65,34 @@ module _ {A : Type 0} where
   -- ---- where no element passes a test but the last
 
   module _ (p : A → Bool) where
-    abbrev pub None : List A → Type 0
-    None xs = All (λ x. p x ≡ false) xs
+    abbrev pub NoneOf : List A → Type 0
+    NoneOf xs = All (λ x. p x ≡ false) xs
 
-    first-none : (xs : List A) → None xs → first_where p xs ≡ none
+    first-none : (xs : List A) → NoneOf xs → first_where p xs ≡ None
     first-none [] h = refl
     first-none (x ∷ xs) h = rw (h.0, first-none xs h.1)
 
-    last_none : (xs : List A) → None xs → last_where p xs ≡ none
+    last_none : (xs : List A) → NoneOf xs → last_where p xs ≡ None
     last_none [] h = refl
     last_none (x ∷ xs) h = rw (h.0, last_none xs h.1)
 
-    pub pick-none : (w : Which) (xs : List A) → None xs → pick w p xs ≡ none
+    pub pick-none : (w : Which) (xs : List A) → NoneOf xs → pick w p xs ≡ None
     pick-none first xs h = first-none xs h
     pick-none last xs h = last_none xs h
 
-    first-end : (xs : List A) (y : A) → None xs → p y ≡ true → first_where p (xs ++ (y ∷ [])) ≡ some (length xs)
+    first-end : (xs : List A) (y : A) → NoneOf xs → p y ≡ true → first_where p (xs ++ (y ∷ [])) ≡ Some (length xs)
     first-end [] y h e = rw e
     first-end (x ∷ xs) y h e = rw (h.0, first-end xs y h.1 e)
 
-    last_end : (xs : List A) (y : A) → None xs → p y ≡ true → last_where p (xs ++ (y ∷ [])) ≡ some (length xs)
+    last_end : (xs : List A) (y : A) → NoneOf xs → p y ≡ true → last_where p (xs ++ (y ∷ [])) ≡ Some (length xs)
     last_end [] y h e = rw e
     last_end (x ∷ xs) y h e = rw (last_end xs y h.1 e)
 
-    pub pick_end : (w : Which) (xs : List A) (y : A) → None xs → p y ≡ true → pick w p (xs ++ (y ∷ [])) ≡ some (length xs)
+    pub pick_end : (w : Which) (xs : List A) (y : A) → NoneOf xs → p y ≡ true → pick w p (xs ++ (y ∷ [])) ≡ Some (length xs)
     pick_end first xs y h e = first-end xs y h e
     pick_end last xs y h e = last_end xs y h e
 
-  pub nth_end : (xs : List A) (y : A) → nth (length xs) (xs ++ (y ∷ [])) ≡ some y
+  pub nth_end : (xs : List A) (y : A) → nth (length xs) (xs ++ (y ∷ [])) ≡ Some y
   nth_end [] y = refl
   nth_end (x ∷ xs) y = nth_end xs y
 
@@ -103,7 +102,7 @@ module _ {A : Type 0} where
 
   -- ---- one more at the end, which fails the test
 
-  nth-append : (xs : List A) (y : A) (i : ℕ) (x : A) → nth i xs ≡ some x → nth i (xs ++ (y ∷ [])) ≡ some x
+  nth-append : (xs : List A) (y : A) (i : ℕ) (x : A) → nth i xs ≡ Some x → nth i (xs ++ (y ∷ [])) ≡ Some x
   nth-append [] y i x e = let z : ◌≡◌ {A = ℕ} 0 1 = cc in absurd (omega arith)
   nth-append (x' ∷ xs) y zero x e = e
   nth-append (x' ∷ xs) y (suc i) x e = nth-append xs y i x e
@@ -125,8 +124,8 @@ module _ {A : Type 0} where
     chosen-miss w xs = ap (λ (o : Option ℕ). and_then o (λ i. nth i (xs ++ (y ∷ [])))) (pick-miss w xs) ∙ go (pick w q xs) (pick-seen q w xs)
       where
         go : (o : Option ℕ) → Seen q xs o → and_then o (λ i. nth i (xs ++ (y ∷ []))) ≡ and_then o (λ i. nth i xs)
-        go none h = refl
-        go (some i) h = nth-append xs y i h.0 h.1 ∙ sym h.1
+        go None h = refl
+        go (Some i) h = nth-append xs y i h.0 h.1 ∙ sym h.1
 
   -- ---- an element that gives way to one of the same id
 
@@ -145,7 +144,7 @@ module _ {A : Type 0} where
     pick-change first i xs = first-change i xs
     pick-change last i xs = last-change i xs
 
-  nth_here : (i : ℕ) (g : A → A) (xs : List A) → nth i (change i g xs) ≡ map g (nth i xs)
+  nth_here : (i : ℕ) (g : A → A) (xs : List A) → nth i (change i g xs) ≡ option_map g (nth i xs)
   nth_here i g [] = refl
   nth_here zero g (x ∷ xs) = refl
   nth_here (suc i) g (x ∷ xs) = nth_here i g xs
@@ -159,20 +158,20 @@ module _ {A : Type 0} where
 
   module _ (p q : A → Bool) where
     -- two tests that no element passes pick two places
-    pub picks-apart : ((x : A) → p x ≡ true → q x ≡ false) → (xs : List A) (i j : ℕ) → Seen p xs (some i) → Seen q xs (some j) → i ≡ j → ⊥
+    pub picks-apart : ((x : A) → p x ≡ true → q x ≡ false) → (xs : List A) (i j : ℕ) → Seen p xs (Some i) → Seen q xs (Some j) → i ≡ j → ⊥
     picks-apart apart xs i j s h z = false≢true (sym (apart s.0 s.2) ∙ ap q (some_same (sym s.1 ∙ ap (λ (k : ℕ). nth k xs) z ∙ h.1)) ∙ h.2)
 
     module _ (g : A → A) (keeps : (x : A) → q (g x) ≡ q x) where
-      pub chosen-other : ((x : A) → p x ≡ true → q x ≡ false) → (w : Which) (xs : List A) (i : ℕ) → pick w p xs ≡ some i → chosen w q (change i g xs) ≡ chosen w q xs
+      pub chosen-other : ((x : A) → p x ≡ true → q x ≡ false) → (w : Which) (xs : List A) (i : ℕ) → pick w p xs ≡ Some i → chosen w q (change i g xs) ≡ chosen w q xs
       chosen-other apart w xs i e =
           ap (λ (o : Option ℕ). and_then o (λ j. nth j (change i g xs))) (pick-change q g keeps w i xs)
           ∙ go (pick w q xs) (pick-seen q w xs) (subst (Seen p xs) e (pick-seen p w xs))
         where
-          go : (o : Option ℕ) → Seen q xs o → Seen p xs (some i) → and_then o (λ j. nth j (change i g xs)) ≡ and_then o (λ j. nth j xs)
-          go none h s = refl
-          go (some j) h s = nth-other i j g (picks-apart apart xs i j s h) xs
+          go : (o : Option ℕ) → Seen q xs o → Seen p xs (Some i) → and_then o (λ j. nth j (change i g xs)) ≡ and_then o (λ j. nth j xs)
+          go None h s = refl
+          go (Some j) h s = nth-other i j g (picks-apart apart xs i j s h) xs
 
-      pub chosen-same : ((x : A) → q x ≡ p x) → (w : Which) (xs : List A) (i : ℕ) → pick w p xs ≡ some i → chosen w q (change i g xs) ≡ map g (nth i xs)
+      pub chosen-same : ((x : A) → q x ≡ p x) → (w : Which) (xs : List A) (i : ℕ) → pick w p xs ≡ Some i → chosen w q (change i g xs) ≡ option_map g (nth i xs)
       chosen-same agree w xs i e =
           ap (λ (o : Option ℕ). and_then o (λ j. nth j (change i g xs))) (pick-change q g keeps w i xs ∙ pick-agree agree w xs ∙ e)
           ∙ nth_here i g xs

@@ -1,8 +1,7 @@
 -- Change request §9, "builds by model and atom additions": an addition takes the names of a good line as they stand. Assumes nothing.
-use Rattle.std.specs.Prelude.{ℕ, ◌≡◌, refl, Bool, true, false, ◌||◌, cond, List, eqb}
+use Rattle.std.specs.Prelude.{ℕ, ◌≡◌, refl, Bool, true, false, ◌||◌, cond, List, eqb, Ok}
 use Rattle.std.proofs.Common.{sym, ap, eqb-true}
 use Rattle.std.proofs.lemmas.Bool.{false≢true}
-use Rattle.machine.specs.Answer.{ok}
 use Rattle.machine.specs.Text.{text_of, chain_id, insertion_code, conformer_name, alternative_location, atom_name, stores, stored_by, absent_or, by_flag, optional}
 use Rattle.machine.specs.Record.{good_fields}
 use Rattle.machine.specs.Edit.{prepare, accept}
@@ -45,18 +44,18 @@ stores-is w (Stored v) h = ap Stored (eqb-true v w h)
 stores-is w Absent h = absurd (false≢true h)
 stores-is w Bad h = absurd (false≢true h)
 
-taken : (n : Name) (rule : List ℕ → Prepared) (w : ℕ) → stored_by rule w ≡ true → accept n (rule (text_of w)) ≡ ok w
+taken : (n : Name) (rule : List ℕ → Prepared) (w : ℕ) → stored_by rule w ≡ true → accept n (rule (text_of w)) ≡ Ok w
 unfolding stored_by
 taken n rule w h = ap (accept n) (stores-is w (rule (text_of w)) h)
 
-taken-optional : (n : Name) (rule : List ℕ → Prepared) (w : ℕ) → absent_or rule w ≡ true → accept n (optional rule (given w)) ≡ ok w
+taken-optional : (n : Name) (rule : List ℕ → Prepared) (w : ℕ) → absent_or rule w ≡ true → accept n (optional rule (given w)) ≡ Ok w
 taken-optional n rule w h = go (eqb w 0) refl h
   where
-    go : (b : Bool) → eqb w 0 ≡ b → b || stored_by rule w ≡ true → accept n (by_flag (cond b 0 1) (rule (text_of w))) ≡ ok w
-    go true e f = ap ok (sym (eqb-true w 0 e))
+    go : (b : Bool) → eqb w 0 ≡ b → b || stored_by rule w ≡ true → accept n (by_flag (cond b 0 1) (rule (text_of w))) ≡ Ok w
+    go true e f = ap Ok (sym (eqb-true w 0 e))
     go false e f = taken n rule w f
 
-pub prepared : (l : AtomLine) → good_line l ≡ true → prepare (addition_of l) ≡ ok (prepared_of l)
+pub prepared : (l : AtomLine) → good_line l ≡ true → prepare (addition_of l) ≡ Ok (prepared_of l)
 unfolding prepare addition_of prepared_of good_line good_fields
 prepared l g =
     let p = and_both (good_fields 3 l.chain) _ g in

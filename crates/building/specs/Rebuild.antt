@@ -1,11 +1,10 @@
 -- A machine's lines, added one by one, build it again where no two siblings have equal ids and nothing is empty. Assumes nothing.
-use Rattle.std.specs.Prelude.{ℕ, zero, suc, ◌≤◌, ◌≡◌, refl, Bool, true, false, not, ◌&&◌, ◌||◌, List, [], ◌∷◌, ◌++◌, map}
+use Rattle.std.specs.Prelude.{ℕ, zero, suc, ◌≤◌, ◌≡◌, refl, Bool, true, false, not, ◌&&◌, ◌||◌, List, [], ◌∷◌, ◌++◌, map, Option}
 use Rattle.std.proofs.Common.{sym, ◌∙◌, append_assoc, append-nil, le_refl, arith}
 use Rattle.std.proofs.Math.Path.{ap}
 use Rattle.std.proofs.lemmas.Bool.{false≢true}
 use Rattle.std.proofs.lemmas.List.{map-append}
 use Rattle.std.proofs.lemmas.Simd.{map-map}
-use Rattle.std.proofs.Math.Option.{Option}
 use Rattle.machine.specs.Lists.{is_empty, all, any, concat_map}
 use Rattle.machine.specs.Record.{Fields}
 use Rattle.machine.specs.Store.{Branch, Machine}
@@ -13,7 +12,7 @@ use Rattle.machine.specs.Edit.{put_in, upsert}
 use Rattle.machine.specs.Lines.{AtomLine, entry_of}
 use Rattle.machine.specs.Read.{same_id, distinct, tidy, tidy_machine}
 use Rattle.laws.specs.Lists.{All, All-of, All-map, All-append, and_both}
-use Rattle.building.specs.Picks.{None, pick-none, pick_end, change-end}
+use Rattle.building.specs.Picks.{NoneOf, pick-none, pick_end, change-end}
 use Rattle.building.specs.Build.{adds, adds-append, into, into-is, into_all, build, Item, which_at, insert, id-self, id-apart}
 
 -- ---- the atoms of some branches, with what they stand under
@@ -62,7 +61,7 @@ full-map f (x ∷ xs) h = refl
 abbrev under : (k : ℕ) → Fields (suc k) → Item k → Item (suc k)
 under k f p = (f, p)
 
-module _ (k : ℕ) (low : k ≤ 2) (f : Fields (suc k)) (done : List (Branch (suc k))) (fresh : None (λ (t : Branch (suc k)). same_id k f t.0) done) where
+module _ (k : ℕ) (low : k ≤ 2) (f : Fields (suc k)) (done : List (Branch (suc k))) (fresh : NoneOf (λ (t : Branch (suc k)). same_id k f t.0) done) where
   grow : (us : List (Branch k)) (p : Item k) → insert (suc k) (f, p) (done ++ ((f, us) ∷ [])) ≡ done ++ ((f, insert k p us) ∷ [])
   unfolding upsert
   grow us p =
@@ -93,13 +92,13 @@ record Whole (k : ℕ) (t : Branch (suc k)) : Type 0 where
 
 -- no id of the second list is one of the first
 abbrev Apart : (k : ℕ) → List (Branch (suc k)) → List (Branch (suc k)) → Type 0
-Apart k done ts = All (λ u. None (λ (t : Branch (suc k)). same_id k u.0 t.0) done) ts
+Apart k done ts = All (λ u. NoneOf (λ (t : Branch (suc k)). same_id k u.0 t.0) done) ts
 
-none_any : {A : Type 0} (p : A → Bool) (xs : List A) → not (any p xs) ≡ true → None p xs
+none_any : {A : Type 0} (p : A → Bool) (xs : List A) → not (any p xs) ≡ true → NoneOf p xs
 none_any p [] h = tt
 none_any p (x ∷ xs) h = go (p x) refl h (none_any p xs)
   where
-    go : (b : Bool) → p x ≡ b → not (b || any p xs) ≡ true → (not (any p xs) ≡ true → None p xs) → None p (x ∷ xs)
+    go : (b : Bool) → p x ≡ b → not (b || any p xs) ≡ true → (not (any p xs) ≡ true → NoneOf p xs) → NoneOf p (x ∷ xs)
     go true e f r = absurd (false≢true f)
     go false e f r = (e, r f)
 

@@ -1,10 +1,9 @@
 -- Change request §9: the calls of a text build what its lines say, or give 8, which one test of what they build decides. Assumes nothing.
-use Rattle.std.specs.Prelude.{ℕ, suc, ◌+◌, ◌≤◌, ◌<◌, ◌≡◌, refl, Bool, true, false, List, [], ◌∷◌, ◌++◌, map, length, leb}
+use Rattle.std.specs.Prelude.{ℕ, suc, ◌+◌, ◌≤◌, ◌<◌, ◌≡◌, refl, Bool, true, false, List, [], ◌∷◌, ◌++◌, map, length, leb, Err, Ok, Option}
 use Rattle.std.proofs.Common.{zero-le, sym, ap, ◌∙◌, subst, append-nil, append_assoc, arith, length-append, le-leb, leb-true, leb-false}
-use Rattle.std.proofs.Math.Option.{Option}
 use Rattle.std.proofs.lemmas.Bool.{lt-leb}
 use Rattle.machine.specs.Lists.{all, sum, splice}
-use Rattle.machine.specs.Answer.{Result, ok, refused, ◌>>=◌, ◌>>◌, need, position}
+use Rattle.machine.specs.Answer.{Result, ◌>>=◌, ◌>>◌, need, position}
 use Rattle.machine.specs.Text.{stored_by, atom_name}
 use Rattle.machine.specs.Record.{Model, good_fields, good_values}
 use Rattle.machine.specs.Store.{Branch, Machine, flat, records, capacity}
@@ -55,7 +54,7 @@ size m = length (records m)
 
 -- a machine, where it has room
 abbrev roomy : ℕ → Machine → Result Machine
-roomy n m = need (leb (size m) (capacity n)) NoCapacity >> ok m
+roomy n m = need (leb (size m) (capacity n)) NoCapacity >> Ok m
 
 size-append : (xs ys : Machine) → size (xs ++ ys) ≡ size xs + size ys
 size-append xs ys = ap length (concat_map-append (flat 4) xs ys) ∙ length-append (records xs) (records ys)
@@ -64,18 +63,18 @@ size-one : (done : Machine) (mo : Model) (ts : List (Branch 3)) → size (done +
 size-one done mo ts =
     size-append done ((mo, ts) ∷ []) ∙ ap (λ (k : ℕ). size done + k) (ap length (append-nil (flat 4 (mo, ts))) ∙ size_of 3 (mo, ts))
 
-too-big : (n : ℕ) (m : Machine) → capacity n < size m → roomy n m ≡ refused NoCapacity
-too-big n m h = ap (λ (b : Bool). need b NoCapacity >> ok m) (lt-leb (size m) (capacity n) h)
+too-big : (n : ℕ) (m : Machine) → capacity n < size m → roomy n m ≡ Err NoCapacity
+too-big n m h = ap (λ (b : Bool). need b NoCapacity >> Ok m) (lt-leb (size m) (capacity n) h)
 
-has_room : (n : ℕ) (m : Machine) → size m ≤ capacity n → roomy n m ≡ ok m
-has_room n m h = ap (λ (b : Bool). need b NoCapacity >> ok m) (le-leb (size m) (capacity n) h)
+has_room : (n : ℕ) (m : Machine) → size m ≤ capacity n → roomy n m ≡ Ok m
+has_room n m h = ap (λ (b : Bool). need b NoCapacity >> Ok m) (le-leb (size m) (capacity n) h)
 
 -- one addition and what follows it, where the machine at last holds as many records or more
 step : (n : ℕ) (m last : Machine) (F : Machine → Result Machine) (r : Result Change) → r ≡ fits n m → size m ≤ size last → (size m ≤ capacity n → F m ≡ roomy n last)
     → (r >>= λ x. F x.after) ≡ roomy n last
 step n m last F r e less rest = ap (λ (z : Result Change). z >>= λ x. F x.after) e ∙ go (leb (size m) (capacity n)) refl
   where
-    go : (b : Bool) → leb (size m) (capacity n) ≡ b → ((need b NoCapacity >> ok (changed m)) >>= λ x. F x.after) ≡ roomy n last
+    go : (b : Bool) → leb (size m) (capacity n) ≡ b → ((need b NoCapacity >> Ok (changed m)) >>= λ x. F x.after) ≡ roomy n last
     go true p = rest (leb-true (size m) (capacity n) p)
     go false p = let k = leb-false (size m) (capacity n) p in sym (too-big n last (omega arith))
 
@@ -120,7 +119,7 @@ entries-run n done (e ∷ es) g h =
 
 -- EVERY ADDITION OF A TEXT, AND 8 BY ONE TEST OF WHAT THEY BUILD
 pub text-run : (n : ℕ) (es : List Entry) → all good_entry es ≡ true
-    → run_calls n [] (calls_from 0 es) ≡ (need (leb (length (records (build es))) (capacity n)) NoCapacity >> ok (build es))
+    → run_calls n [] (calls_from 0 es) ≡ need (leb (length (records (build es))) (capacity n)) NoCapacity >> Ok (build es)
 text-run n es g = entries-run n [] es g zero-le
 
 -- THE COUNT: the records of what is built, from the lines alone
@@ -136,11 +135,11 @@ build-count (e ∷ es) =
 
 -- ---- calls in a row keep a machine good, and in its store
 
-pub run-keeps : (n : ℕ) (m after : Machine) (cs : List Call) → Fit n m → run_calls n m cs ≡ ok after → Fit n after
+pub run-keeps : (n : ℕ) (m after : Machine) (cs : List Call) → Fit n m → run_calls n m cs ≡ Ok after → Fit n after
 unfolding run_calls
 run-keeps n m after [] f e = let q : m ≡ after = cc in subst (Fit n) q f
 run-keeps n m after (c ∷ cs) f e = go (machine_step n m c) (step_keeps n m c f) e (λ m'. run-keeps n m' after cs)
   where
-    go : (r : Result Change) → Fit n (next m r) → (r >>= λ x. run_calls n x.after cs) ≡ ok after → ((m' : Machine) → Fit n m' → run_calls n m' cs ≡ ok after → Fit n after) → Fit n after
-    go (ok x) h p rest = rest x.after h p
-    go (refused r) h p rest = let z : ◌≡◌ {A = ℕ} 0 1 = cc in absurd (omega arith)
+    go : (r : Result Change) → Fit n (next m r) → (r >>= λ x. run_calls n x.after cs) ≡ Ok after → ((m' : Machine) → Fit n m' → run_calls n m' cs ≡ Ok after → Fit n after) → Fit n after
+    go (Ok x) h p rest = rest x.after h p
+    go (Err r) h p rest = let z : ◌≡◌ {A = ℕ} 0 1 = cc in absurd (omega arith)

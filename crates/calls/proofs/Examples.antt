@@ -1,9 +1,9 @@
 -- Three calls as words, and lists that are none. Assumes nothing.
+use Rattle.std.specs.Prelude.{Some}
 use Prim.Native.Nat.{ℕ, suc}
 use mathlib.Core.Path.{◌≡◌, refl}
 use mathlib.Core.Bool.{true, false}
 use mathlib.Core.List.{List, [], ◌∷◌}
-use mathlib.Core.Option.{some}
 use lib.ListN.{length, replicate}
 use Rattle.machine.specs.Lists.{is_some, any, all}
 use Rattle.machine.specs.Edit.{Call, RemoveResidueById, RemoveAtomsBy, JoinModels}
@@ -20,7 +20,7 @@ pub written : write_calls three ≡ words
 unfolding rows call_of form_of
 written = refl
 
-pub read : read_calls words ≡ some three
+pub read : read_calls words ≡ Some three
 unfolding rows read_parts call_of read_call calls_in
 read = refl
 

@@ -1,108 +1,69 @@
--- The loops over a text's bytes, a call's parts and a list's calls; the table of the calls. Assumes nothing.
-use Prim.Native.Nat.{ℕ, zero, suc, ◌+◌, ◌-◌, ◌≤◌, ◌<◌}
+-- A call's parts, a call by its row, and a list's calls, each read from the front. Assumes nothing.
+use Prim.Native.Nat.{ℕ, suc, ◌+◌, ◌-◌, ◌≤◌, ◌<◌}
 use mathlib.Core.Path.{◌≡◌, refl, sym, ap, ◌∙◌}
 use mathlib.Core.Bool.{Bool, true, false, ◌&&◌, cond, and-false}
-use mathlib.Core.List.{List, [], ◌∷◌, map}
-use mathlib.Core.Option
-use mathlib.Core.Option.{Option, none, some}
+use mathlib.Core.List.{List, [], ◌∷◌}
+use Rattle.std.specs.Prelude.{None, Option, Some, option_map}
 use native.Mathlib.Omega.{arith}
-use native.Mathlib.Numerals.{add-one}
-use lib.ListN.{length, get_or, take, drop, length-drop, drop_of_length-le}
-use lib.Seq.{get_or-drop, drop-drop, drop-cons}
+use lib.ListN.{length, get_or, take, drop, length-drop, length-take}
+use lib.Seq.{drop-drop, take_all}
 use lib.Dec.{leb, eqb}
-use borrow.Author.Tests.{le-leb, lt-leb, lt-ltb, le-ltb, eqb-true, eqb-false}
-use Rattle.machine.specs.Lists.{is_some, all, and_then}
+use borrow.Author.Tests.{le-leb, lt-leb, ne_eqb}
+use Rattle.std.specs.List.{IsSplitAt}
+use Rattle.machine.specs.Lists.{is_some, and_then}
 use Rattle.machine.specs.Edit.{Call}
-use Rattle.calls.specs.Format.{Row, rows, no_row, row_of, shape_of, is_code, is_byte, numbers_in, texts_in, trees_in, parts_in, good_part, read_parts, read_call, longest, read_calls}
-use Rattle.calls.specs.Counted.{counted_of}
-use Rattle.calls.proofs.Reading.{call-fold, calls-none, calls-fold}
-use Rattle.calls.specs.declared.Counted.{Counted}
-use Rattle.calls.specs.declared.Counted.TheVariants.{Calls, Bad}
+use Rattle.calls.specs.Format.{row_of, shape_of, is_code, numbers_in, trees_in, parts_in, good_part, read_parts, read_call, longest, read_calls}
+use Rattle.calls.proofs.Reading.{parts-fold, call-fold, calls-none, calls-fold}
 
--- ---- row
+-- ---- a slice's first words and those behind them
 
-row_at : (rs : List Row) (code : ℕ) → code < length rs → get_or (map shape_of rs) code [] ≡ shape_of (get_or rs code no_row)
-row_at [] code h = absurd (omega arith)
-row_at (r ∷ rs) zero h = refl
-row_at (r ∷ rs) (suc code) h = row_at rs code (omega arith)
+-- the words behind the first k, as a pattern gives them
+abbrev pub behind_first : ℕ → List ℕ → List ℕ
+behind_first k ws = take (length ws - k) (drop k ws)
 
--- the table of `src/` is that of the definitions
-pub row_is : (code : ℕ) → code ≤ length rows → get_or (map shape_of (no_row ∷ rows)) code [] ≡ shape_of (row_of code)
-row_is code h = row_at (no_row ∷ rows) code (omega arith)
-
--- ---- all_bytes
-
-module _ (ws : List ℕ) (i : ℕ) (e : all is_byte ws ≡ all is_byte (drop i ws)) where
-  pub bytes-end : length ws ≤ i → true ≡ all is_byte ws
-  bytes-end l = sym (e ∙ ap (all is_byte) (drop_of_length-le ws l))
-
-  module _ (l : i < length ws) where
-    pub bytes-bad : 255 < get_or ws i 0 → false ≡ all is_byte ws
-    bytes-bad h = sym (e ∙ rw (drop-cons ws i 0 l, le-ltb (get_or ws i 0) 256 (omega arith)))
-
-    pub bytes_next : get_or ws i 0 ≤ 255 → all is_byte ws ≡ all is_byte (drop (i + 1) ws)
-    bytes_next h = e ∙ rw (add-one, drop-cons ws i 0 l, lt-ltb (get_or ws i 0) 256 (omega arith))
-
--- ---- good_part
-
-pub tree-part : (trees later : ℕ) (ws : List ℕ) → later < trees → true ≡ good_part trees later ws
-tree-part trees later ws h = rw (lt-ltb later trees h)
-
-pub text-part : (trees later : ℕ) (ws : List ℕ) (r : Bool) → trees ≤ later → r ≡ all is_byte ws → r ≡ good_part trees later ws
-text-part trees later ws r h e = rw (le-ltb later trees h) e
+behind_first_is : (k : ℕ) (ws : List ℕ) → behind_first k ws ≡ drop k ws
+behind_first_is k ws = take_all (length ws - k) (drop k ws) (omega (arith, length-drop k ws))
 
 -- ---- good_parts
 
-some-map : {A B : Type 0} (b : Bool) (f : A → B) (o : Option A) → is_some (cond b (Option.map f o) none) ≡ b && is_some o
-some-map true f none = refl
-some-map true f (some x) = refl
+some-map : {A B : Type 0} (b : Bool) (f : A → B) (o : Option A) → is_some (cond b (option_map f o) None) ≡ b && is_some o
+some-map true f None = refl
+some-map true f (Some x) = refl
 some-map false f o = refl
 
-module _ (trees left at : ℕ) (ws : List ℕ) (whole : Bool) (e : whole ≡ is_some (read_parts trees left (drop at ws))) where
-  none_left : left ≤ 0 → at ≤ length ws → (b : Bool) → eqb at (length ws) ≡ b → b ≡ whole
+-- k parts, of which the first is its length and as many words
+module _ (trees k : ℕ) (ws : List ℕ) (whole : Bool) (e : is_some (read_parts trees k ws) ≡ whole) where
+  pub parts-end : k ≤ 0 → eqb (length ws) 0 ≡ whole
   unfolding read_parts
-  none_left l h true q =
-      let k : left ≡ 0 = omega arith in
-      let f : length ws ≤ at = omega (arith, eqb-true at (length ws) q) in
-      sym (e ∙ rw (k, drop_of_length-le ws f))
-  none_left l h false q =
-      let k : left ≡ 0 = omega arith in
-      let f : at < length ws = omega (arith, eqb-false at (length ws) q) in
-      sym (e ∙ rw (k, drop-cons ws at 0 f))
+  parts-end h = let z : k ≡ 0 = omega arith in sym (none_left ws) ∙ (rw z at e)
+    where
+      none_left : (vs : List ℕ) → is_some (read_parts trees 0 vs) ≡ eqb (length vs) 0
+      none_left [] = refl
+      none_left (v ∷ vs) = sym (ne_eqb (length (v ∷ vs)) 0 (λ z. omega arith))
 
-  pub parts-end : left ≤ 0 → at ≤ length ws → eqb at (length ws) ≡ whole
-  parts-end l h = none_left l h (eqb at (length ws)) refl
+  module _ (l : 0 < k) where
+    part_first : whole ≡ (leb (1 + get_or ws 0 0) (length ws) && good_part trees (k - 1) (take (get_or ws 0 0) (drop 1 ws))) && is_some (read_parts trees (k - 1) (drop (1 + get_or ws 0 0) ws))
+    part_first =
+        let z : k ≡ suc (k - 1) = omega arith in
+        sym e ∙ ap (λ (j : ℕ). is_some (read_parts trees j ws)) z ∙ rw (parts-fold trees (k - 1) ws, some-map)
 
-  module _ (l : 0 < left) where
-    pub parts_out : at ≡ length ws → false ≡ whole
-    unfolding read_parts
-    parts_out h =
-        let k : left ≡ suc (left - 1) = omega arith in
-        let f : length ws ≤ at = omega arith in
-        sym (e ∙ rw (k, drop_of_length-le ws f))
+    pub parts_out : length ws < 1 → false ≡ whole
+    parts_out h = sym (part_first ∙ rw (lt-leb (1 + get_or ws 0 0) (length ws) (omega arith)))
 
-    module _ (h : at ≤ length ws) (n : at ≡ length ws → ⊥) where
-      part_at : whole ≡ (leb (get_or ws at 0) (length ws - (at + 1)) && good_part trees (left - 1) (take (get_or ws at 0) (drop (at + 1) ws))) && is_some (read_parts trees (left - 1) (drop (at + 1 + get_or ws at 0) ws))
-      unfolding read_parts
-      part_at =
-          let k : left ≡ suc (left - 1) = omega arith in
-          let i : at < length ws = omega arith in
-          e ∙ ap (λ (j : ℕ). is_some (read_parts trees j (drop at ws))) k ∙ rw (drop-cons ws at 0 i, ← add-one at, some-map, length-drop, drop-drop)
+    pub parts-cut : length (behind_first 1 ws) < get_or ws 0 0 → false ≡ whole
+    parts-cut h = sym (part_first ∙ rw (lt-leb (1 + get_or ws 0 0) (length ws) (omega (arith, length-take (length ws - 1) (drop 1 ws), length-drop 1 ws))))
 
-      pub parts-over : length ws - (at + 1) < get_or ws at 0 → false ≡ whole
-      parts-over o = sym (part_at ∙ rw (lt-leb (get_or ws at 0) (length ws - (at + 1)) o))
+    module _ (h : 1 ≤ length ws) (part behind : List ℕ) (s : IsSplitAt (behind_first 1 ws) (get_or ws 0 0) part behind) (r : Bool) (g : r ≡ good_part trees (k - 1) part) where
+      good_first : whole ≡ r && is_some (read_parts trees (k - 1) behind)
+      good_first =
+          let t = rw behind_first_is at s in
+          part_first ∙ rw (le-leb (1 + get_or ws 0 0) (length ws) (omega (arith, length-drop 1 ws)), ← t.1, ← g, ← drop-drop (get_or ws 0 0) 1 ws, ← t.2)
 
-      module _ (o : get_or ws at 0 ≤ length ws - (at + 1)) (r : Bool) (g : r ≡ good_part trees (left - 1) (take (at + 1 + get_or ws at 0 - (at + 1)) (drop (at + 1) ws))) where
-        good-at : whole ≡ r && is_some (read_parts trees (left - 1) (drop (at + 1 + get_or ws at 0) ws))
-        good-at =
-            let m : at + 1 + get_or ws at 0 - (at + 1) ≡ get_or ws at 0 = omega arith in
-            part_at ∙ rw (le-leb (get_or ws at 0) (length ws - (at + 1)) o, g, m)
+      pub parts-bad : r ≡ false → false ≡ whole
+      parts-bad b = sym (good_first ∙ rw b)
 
-        pub parts-bad : r ≡ false → false ≡ whole
-        parts-bad b = sym (good-at ∙ rw b)
-
-        pub parts_next : r ≡ true → whole ≡ is_some (read_parts trees (left - 1) (drop (at + 1 + get_or ws at 0) ws))
-        parts_next b = good-at ∙ rw b
+      pub parts_next : r ≡ true → is_some (read_parts trees (k - 1) behind) ≡ whole
+      parts_next b = sym (good_first ∙ rw b)
 
 -- ---- good_call
 
@@ -110,86 +71,74 @@ module _ (code : ℕ) (ws : List ℕ) where
   call_at : is_some (read_call code ws) ≡ (is_code code && leb (numbers_in code) (length ws)) && is_some (read_parts (trees_in code) (parts_in code) (drop (numbers_in code) ws))
   call_at = rw (call-fold code ws, some-map)
 
-  pub call-low : code < 1 → false ≡ is_some (read_call code ws)
-  call-low l = sym (call_at ∙ rw (lt-leb 1 code l))
-
-  pub call-high : length rows < code → false ≡ is_some (read_call code ws)
-  call-high h = sym (call_at ∙ rw (lt-leb code (length rows) h, and-false))
+  pub call-unknown : is_code code ≡ false → false ≡ is_some (read_call code ws)
+  call-unknown h = sym (call_at ∙ rw h)
 
   -- its row, as it is read
-  module _ (row : List ℕ) (q : row ≡ shape_of (row_of code)) (n : ℕ) (e : n ≡ get_or row 0 0) where
-    pub call-short : length ws < n → false ≡ is_some (read_call code ws)
-    call-short s = let m : n ≡ numbers_in code = e ∙ rw q in sym (call_at ∙ rw (← m, lt-leb n (length ws) s, and-false))
+  module _ (row : List ℕ) (known : is_code code ≡ true) (q : row ≡ shape_of (row_of code)) where
+    pub call-short : length ws < get_or row 0 0 → false ≡ is_some (read_call code ws)
+    call-short s = let m = ap (λ (r : List ℕ). get_or r 0 0) q in sym (call_at ∙ rw (← m, lt-leb (get_or row 0 0) (length ws) s, and-false))
 
-    pub call-rest : 1 ≤ code → code ≤ length rows → n ≤ length ws → (t k : ℕ) → t ≡ get_or row 2 0 → k ≡ get_or row 1 0 → (r : Bool) → r ≡ is_some (read_parts t (k + t) (drop n ws)) → r ≡ is_some (read_call code ws)
-    call-rest l h s t k f g r i =
-        let m : n ≡ numbers_in code = e ∙ rw q in
-        let u : t ≡ trees_in code = f ∙ rw q in
-        let v : k ≡ texts_in code = g ∙ rw q in
-        i ∙ sym (call_at ∙ rw (le-leb 1 code l, le-leb code (length rows) h, ← m, le-leb n (length ws) s, ← u, ← v))
+    pub call-rest : (numbers : List ℕ) (parts : List ℕ) → IsSplitAt ws (get_or row 0 0) numbers parts → (r : Bool) → r ≡ is_some (read_parts (get_or row 2 0) (get_or row 1 0 + get_or row 2 0) parts) → r ≡ is_some (read_call code ws)
+    call-rest numbers parts s r i =
+        let m = ap (λ (x : List ℕ). get_or x 0 0) q in
+        let u = ap (λ (x : List ℕ). get_or x 1 0) q in
+        let v = ap (λ (x : List ℕ). get_or x 2 0) q in
+        i ∙ sym (call_at ∙ rw (known, ← m, ← u, ← v, le-leb (get_or row 0 0) (length ws) s.0, s.2))
 
 -- ---- count_calls
 
 -- the calls counted so far and those that are left
-abbrev pub counted_from : ℕ → Option (List Call) → Counted
-counted_from k none = Bad
-counted_from k (some cs) = Calls (k + length cs)
+abbrev pub counted_from : ℕ → Option (List Call) → Option ℕ
+counted_from k None = None
+counted_from k (Some cs) = Some (k + length cs)
 
 counted-map : (k : ℕ) (b : Bool) (o : Option Call) (q : Option (List Call))
-    → counted_from k (cond b (and_then o (λ (c : Call). Option.map (λ (cs : List Call). c ∷ cs) q)) none) ≡ cond (b && is_some o) (counted_from (k + 1) q) Bad
-counted-map k true none q = refl
-counted-map k true (some c) none = refl
-counted-map k true (some c) (some cs) = ap Calls (omega arith)
+    → counted_from k (cond b (and_then o (λ (c : Call). option_map (λ (cs : List Call). c ∷ cs) q)) None) ≡ cond (b && is_some o) (counted_from (k + 1) q) None
+counted-map k true None q = refl
+counted-map k true (Some c) None = refl
+counted-map k true (Some c) (Some cs) = ap Some (omega arith)
 counted-map k false o q = refl
-
-pub calls-begin : (o : Option (List Call)) → counted_of o ≡ counted_from 0 o
-calls-begin none = refl
-calls-begin (some cs) = ap Calls (omega arith)
 
 counted_step : (k : ℕ) (ws : List ℕ) → 0 < length ws
     → counted_from k (read_calls ws)
     ≡ cond (leb (2 + get_or ws 1 0) (length ws) && leb (get_or ws 1 0) longest && is_some (read_call (get_or ws 0 0) (take (get_or ws 1 0) (drop 2 ws))))
     (counted_from (k + 1) (read_calls (drop (2 + get_or ws 1 0) ws)))
-    Bad
+    None
 counted_step k ws h =
     let n = get_or ws 1 0 in
     ap (counted_from k) (calls-fold ws h) ∙ counted-map k (leb (2 + n) (length ws) && leb n longest) (read_call (get_or ws 0 0) (take n (drop 2 ws))) (read_calls (drop (2 + n) ws))
 
-module _ (ws : List ℕ) (at k : ℕ) (whole : Counted) (e : whole ≡ counted_from k (read_calls (drop at ws))) where
-  pub calls-end : length ws ≤ at → Calls k ≡ whole
-  calls-end l = let z : k + 0 ≡ k = omega arith in sym (e ∙ rw (drop_of_length-le ws l, calls-none, z))
+-- `k` calls counted, and the words that are left
+module _ (k : ℕ) (ws : List ℕ) (whole : Option ℕ) (e : counted_from k (read_calls ws) ≡ whole) where
+  pub calls-end : length ws ≡ 0 → Some k ≡ whole
+  calls-end l = none_left ws l e
+    where
+      none_left : (vs : List ℕ) → length vs ≡ 0 → counted_from k (read_calls vs) ≡ whole → Some k ≡ whole
+      none_left [] l e = let z : k + 0 ≡ k = omega arith in sym (ap Some z) ∙ sym (ap (counted_from k) calls-none) ∙ e
+      none_left (v ∷ vs) l e = absurd (omega arith)
 
-  module _ (l : at < length ws) where
-    calls_at : whole
-        ≡ cond (leb (2 + get_or ws (at + 1) 0) (length ws - at) && leb (get_or ws (at + 1) 0) longest && is_some (read_call (get_or ws at 0) (take (get_or ws (at + 1) 0) (drop (at + 2) ws))))
-        (counted_from (k + 1) (read_calls (drop (at + 2 + get_or ws (at + 1) 0) ws)))
-        Bad
-    calls_at =
-        let z : at + 0 ≡ at = omega arith in
-        let m : at + (2 + get_or ws (at + 1) 0) ≡ at + 2 + get_or ws (at + 1) 0 = omega arith in
-        e ∙ counted_step k (drop at ws) (omega (arith, length-drop at ws)) ∙ simp (get_or-drop, length-drop, drop-drop, z, m)
+  pub calls-cut : (length ws ≡ 0 → ⊥) → length ws < 2 → None ≡ whole
+  calls-cut n l = sym (sym e ∙ counted_step k ws (omega arith) ∙ rw (lt-leb (2 + get_or ws 1 0) (length ws) (omega arith)))
 
-    calls-over : length ws - at < 2 + get_or ws (at + 1) 0 → Bad ≡ whole
-    calls-over h = sym (calls_at ∙ rw (lt-leb (2 + get_or ws (at + 1) 0) (length ws - at) h))
+  module _ (l : 2 ≤ length ws) where
+    pub calls-long : 1024 < get_or ws 1 0 → None ≡ whole
+    calls-long h = sym (sym e ∙ counted_step k ws (omega arith) ∙ rw (lt-leb (get_or ws 1 0) longest h, and-false))
 
-    pub calls-cut : length ws - at < 2 → Bad ≡ whole
-    calls-cut h = calls-over (omega arith)
+    pub calls-past : length (behind_first 2 ws) < get_or ws 1 0 → None ≡ whole
+    calls-past h =
+        sym (sym e ∙ counted_step k ws (omega arith) ∙ rw (lt-leb (2 + get_or ws 1 0) (length ws) (omega (arith, length-take (length ws - 2) (drop 2 ws), length-drop 2 ws))))
 
-    pub calls-long : 1024 < get_or ws (at + 1) 0 → Bad ≡ whole
-    calls-long h = sym (calls_at ∙ rw (lt-leb (get_or ws (at + 1) 0) longest h, and-false))
-
-    pub calls-past : length ws < at + 2 + get_or ws (at + 1) 0 → Bad ≡ whole
-    calls-past h = calls-over (omega arith)
-
-    module _ (s : get_or ws (at + 1) 0 ≤ 1024) (h : at + 2 + get_or ws (at + 1) 0 ≤ length ws) (r : Bool)
-        (g : r ≡ is_some (read_call (get_or ws at 0) (take (at + 2 + get_or ws (at + 1) 0 - (at + 2)) (drop (at + 2) ws)))) where
-      good-next : whole ≡ cond r (counted_from (k + 1) (read_calls (drop (at + 2 + get_or ws (at + 1) 0) ws))) Bad
+    module _ (s : get_or ws 1 0 ≤ 1024) (words later : List ℕ) (p : IsSplitAt (behind_first 2 ws) (get_or ws 1 0) words later) (r : Bool) (g : r ≡ is_some (read_call (get_or ws 0 0) words)) where
+      good-next : whole ≡ cond r (counted_from (k + 1) (read_calls later)) None
       good-next =
-          let n : at + 2 + get_or ws (at + 1) 0 - (at + 2) ≡ get_or ws (at + 1) 0 = omega arith in
-          calls_at ∙ rw (le-leb (2 + get_or ws (at + 1) 0) (length ws - at) (omega arith), le-leb (get_or ws (at + 1) 0) longest s, g, n)
+          let t = rw behind_first_is at p in
+          sym e
+          ∙ counted_step k ws (omega arith)
+          ∙ rw (le-leb (2 + get_or ws 1 0) (length ws) (omega (arith, length-drop 2 ws)), le-leb (get_or ws 1 0) longest s, ← t.1, ← g, ← drop-drop (get_or ws 1 0) 2 ws, ← t.2)
 
-      pub calls-bad : r ≡ false → Bad ≡ whole
+      pub calls-bad : r ≡ false → None ≡ whole
       calls-bad b = sym (good-next ∙ rw b)
 
-      pub calls-next : r ≡ true → whole ≡ counted_from (k + 1) (read_calls (drop (at + 2 + get_or ws (at + 1) 0) ws))
-      calls-next b = good-next ∙ rw b
+      pub calls-next : r ≡ true → counted_from (k + 1) (read_calls later) ≡ whole
+      calls-next b = sym (good-next ∙ rw b)

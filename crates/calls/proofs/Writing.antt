@@ -1,9 +1,9 @@
 -- Calls written as words: what is written is read back. Assumes nothing.
+use Rattle.std.specs.Prelude.{Some}
 use Prim.Native.Nat.{ℕ, suc, ◌+◌, ◌≤◌}
 use mathlib.Core.Path.{◌≡◌, refl, ap, ◌∙◌}
 use mathlib.Core.Bool.{Bool, true, ◌&&◌}
 use mathlib.Core.List.{List, [], ◌∷◌, ◌++◌}
-use mathlib.Core.Option.{some}
 use native.Mathlib.Omega.{arith}
 use lib.ListN.{length, length-append}
 use lib.Seq.{take-append_seam, drop-append_seam}
@@ -90,7 +90,7 @@ pub record Writable (c : Call) : Type 0 where
   pub short : length (body c) ≤ longest
   pub good : good_parts (trees_in (form_of c).code) (form_of c).parts ≡ true
 
-parts-written : (trees : ℕ) (ps : List (List ℕ)) → good_parts trees ps ≡ true → read_parts trees (length ps) (part_words ps) ≡ some ps
+parts-written : (trees : ℕ) (ps : List (List ℕ)) → good_parts trees ps ≡ true → read_parts trees (length ps) (part_words ps) ≡ Some ps
 unfolding read_parts
 parts-written trees [] h = refl
 parts-written trees (p ∷ ps) h =
@@ -99,7 +99,7 @@ parts-written trees (p ∷ ps) h =
     let l : length p ≤ length (p ++ rest) = omega (arith, length-append p rest) in
     rw (le-leb (length p) (length (p ++ rest)) l, take-append_seam p rest, drop-append_seam p rest, b.0, parts-written trees ps b.1)
 
-pub call-written : (c : Call) → Writable c → read_call (form_of c).code (body c) ≡ some c
+pub call-written : (c : Call) → Writable c → read_call (form_of c).code (body c) ≡ Some c
 call-written c w =
     let f = form_of c in
     let b : is_code f.code ≡ true = ap (λ t. t.0) f.fits in
@@ -110,7 +110,7 @@ call-written c w =
     let l = le-leb (length f.numbers) (length (body c)) (omega (arith, length-append f.numbers rest)) in
     call-fold f.code (body c) ∙ simp (n, k, b, l, take-append_seam f.numbers rest, drop-append_seam f.numbers rest, parts-written (trees_in f.code) f.parts w.good, same)
 
-pub read-written : (cs : List Call) → All Writable cs → read_calls (write_calls cs) ≡ some cs
+pub read-written : (cs : List Call) → All Writable cs → read_calls (write_calls cs) ≡ Some cs
 read-written [] h = calls-none
 read-written (c ∷ cs) h =
     let rest = write_calls cs in

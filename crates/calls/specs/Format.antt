@@ -1,7 +1,6 @@
 -- A list of edits as words (docs/FORMATS.md). A call is its code, the number of words that follow, and these: first its numbers, then
 -- its parts, each a length and as many words. A part is a text, a byte to a word, or a tree. Assumes nothing.
-use Rattle.std.specs.Prelude.{ℕ, zero, suc, ◌+◌, Bool, ◌&&◌, ◌||◌, cond, List, [], ◌∷◌, length, get_or, take, drop, leb, ltb}
-use Rattle.std.proofs.Math.Option.{Option, none, some, map}
+use Rattle.std.specs.Prelude.{ℕ, zero, suc, ◌+◌, Bool, ◌&&◌, ◌||◌, cond, List, [], ◌∷◌, length, get_or, take, drop, leb, ltb, None, Option, Some, option_map}
 use Rattle.machine.specs.Lists.{is_empty, all, and_then}
 use Rattle.machine.specs.Text.{optional_of}
 use Rattle.machine.specs.Edit.{
@@ -105,19 +104,19 @@ good_part trees later p = ltb later trees || all is_byte p
 
 -- k parts and no word more
 unfoldable pub read_parts : ℕ → ℕ → List ℕ → Option (List (List ℕ))
-read_parts trees zero [] = some []
-read_parts trees zero (w ∷ ws) = none
-read_parts trees (suc k) [] = none
+read_parts trees zero [] = Some []
+read_parts trees zero (w ∷ ws) = None
+read_parts trees (suc k) [] = None
 read_parts trees (suc k) (n ∷ ws) =
-    cond (leb n (length ws) && good_part trees k (take n ws)) (map (λ (ps : List (List ℕ)). take n ws ∷ ps) (read_parts trees k (drop n ws))) none
+    cond (leb n (length ws) && good_part trees k (take n ws)) (option_map (λ (ps : List (List ℕ)). take n ws ∷ ps) (read_parts trees k (drop n ws))) None
 
 -- the call of a code and the words behind its header
 unfoldable pub read_call : ℕ → List ℕ → Option Call
 read_call code ws =
     let n = numbers_in code in
     cond (is_code code && leb n (length ws))
-    (map (λ (ps : List (List ℕ)). call_of (take n ws) ps code) (read_parts (trees_in code) (parts_in code) (drop n ws)))
-    none
+    (option_map (λ (ps : List (List ℕ)). call_of (take n ws) ps code) (read_parts (trees_in code) (parts_in code) (drop n ws)))
+    None
 
 -- a call has at most so many words behind its header
 abbrev pub longest : ℕ
@@ -125,13 +124,13 @@ longest = 1024
 
 -- the calls, one after another to the last word: a call has two words at least, so as many steps as there are words are enough
 unfoldable pub calls_in : ℕ → List ℕ → Option (List Call)
-calls_in zero ws = cond (is_empty ws) (some []) none
+calls_in zero ws = cond (is_empty ws) (Some []) None
 calls_in (suc steps) ws =
     let n = get_or ws 1 0 in
-    cond (is_empty ws) (some [])
+    cond (is_empty ws) (Some [])
     (cond (leb (2 + n) (length ws) && leb n longest)
-    (and_then (read_call (get_or ws 0 0) (take n (drop 2 ws))) (λ (c : Call). map (λ (cs : List Call). c ∷ cs) (calls_in steps (drop (2 + n) ws))))
-    none)
+    (and_then (read_call (get_or ws 0 0) (take n (drop 2 ws))) (λ (c : Call). option_map (λ (cs : List Call). c ∷ cs) (calls_in steps (drop (2 + n) ws))))
+    None)
 
 abbrev pub read_calls : List ℕ → Option (List Call)
 read_calls ws = calls_in (length ws) ws

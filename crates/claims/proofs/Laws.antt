@@ -1,14 +1,14 @@
 -- A tree that is put together, and the whole run. Assumes nothing.
+use Rattle.std.specs.Prelude.{Err, None, Ok, Option, Some}
 use Prim.Native.Nat.{ℕ, ◌+◌, ◌≤◌, ◌<◌}
 use mathlib.Core.Path.{◌≡◌, refl, ap, ◌∙◌}
 use mathlib.Core.Bool.{and-false}
 use mathlib.Core.List.{List, [], ◌∷◌, ◌++◌, append_assoc}
-use mathlib.Core.Option.{Option, none, some}
 use native.Mathlib.Omega.{arith}
 use lib.ListN.{length, take, drop, length-append}
 use lib.Seq.{take_at}
 use borrow.Author.Tests.{lt-leb}
-use Rattle.machine.specs.Answer.{Result, ok, refused, ◌>>=◌, ◌>>◌, position}
+use Rattle.machine.specs.Answer.{Result, ◌>>=◌, ◌>>◌, position}
 use Rattle.machine.specs.Store.{Machine, read_store, open_run}
 use Rattle.machine.specs.Query.{read_tree, tables, and_tree, or_tree, not_tree}
 use Rattle.machine.specs.Find.{Site, atoms_from, lowest, hits_among, hits_from, written, find_from}
@@ -22,7 +22,7 @@ use Rattle.claims.proofs.Whole.{whole-claims}
 
 -- ---- find_joined
 
-long-tree : (t : List ℕ) → 381 < length t → read_tree t ≡ refused TreeShape
+long-tree : (t : List ℕ) → 381 < length t → read_tree t ≡ Err TreeShape
 unfolding read_tree
 long-tree t h = rw (lt-leb (length t) 381 h, and-false)
 
@@ -30,13 +30,13 @@ long-find : (w start t u out : List ℕ) → 381 < length t → 381 < length u �
 unfolding find_from hits_from
 long-find w start t u out h g = by-store (read_store w)
   where
-    by-start : (o : Option (List Site)) → written out (position o >>= λ atoms. read_tree t >> ok (hits_among tables (lowest start) t atoms)) ≡ written out (position o >>= λ atoms. read_tree u >> ok (hits_among tables (lowest start) u atoms))
-    by-start none = refl
-    by-start (some atoms) = rw (long-tree t h, long-tree u g)
+    by-start : (o : Option (List Site)) → written out (position o >>= λ atoms. read_tree t >> Ok (hits_among tables (lowest start) t atoms)) ≡ written out (position o >>= λ atoms. read_tree u >> Ok (hits_among tables (lowest start) u atoms))
+    by-start None = refl
+    by-start (Some atoms) = rw (long-tree t h, long-tree u g)
 
-    by-store : (r : Result Machine) → written out (r >>= λ m. position (atoms_from start m) >>= λ atoms. read_tree t >> ok (hits_among tables (lowest start) t atoms)) ≡ written out (r >>= λ m. position (atoms_from start m) >>= λ atoms. read_tree u >> ok (hits_among tables (lowest start) u atoms))
-    by-store (refused e) = refl
-    by-store (ok m) = by-start (atoms_from start m)
+    by-store : (r : Result Machine) → written out (r >>= λ m. position (atoms_from start m) >>= λ atoms. read_tree t >> Ok (hits_among tables (lowest start) t atoms)) ≡ written out (r >>= λ m. position (atoms_from start m) >>= λ atoms. read_tree u >> Ok (hits_among tables (lowest start) u atoms))
+    by-store (Err e) = refl
+    by-store (Ok m) = by-start (atoms_from start m)
 
 module _ (w start A B out : List ℕ) (code : ℕ) (run : List ℕ × List ℕ) where
   pub too_long : (t : List ℕ) → run ≡ find_from w start t out → length t ≡ 384 → 381 < length A + length B → run ≡ find_from w start (A ++ (B ++ (code ∷ 0 ∷ 0 ∷ []))) out

@@ -1,14 +1,14 @@
 -- The facts hold of what the whole run leaves: they are those of `demand3`, at the list's calls and the five runs. Assumes nothing.
+use Rattle.std.specs.Prelude.{Err, None, Ok, Option, Some}
 use Prim.Native.Nat.{ℕ, ◌*◌}
 use mathlib.Core.Path.{◌≡◌, refl, sym, ◌∙◌}
 use mathlib.Core.Bool.{Bool, true, false, false≢true}
 use mathlib.Core.List.{List, [], ◌∷◌, ◌++◌, append_assoc}
-use mathlib.Core.Option.{Option, none, some}
 use lib.ListN.{length}
 use lib.Seq.{take_at, drop_at}
 use lib.Dec.{leb}
 use Rattle.machine.specs.Lists.{concat_map}
-use Rattle.machine.specs.Answer.{Result, ok, refused}
+use Rattle.machine.specs.Answer.{Result}
 use Rattle.machine.specs.Store.{Machine, read_store, open_run}
 use Rattle.machine.specs.Edit.{Call, Change, machine_step, answer, next, machine_answers, store_after, store_answers}
 use Rattle.machine.specs.Demand.{accepts}
@@ -24,22 +24,22 @@ use Rattle.claims.specs.Claim.{threes, Claims, whole_run}
 -- an accepted list: it stands for calls, and each had its turn
 record Ran (w list before : List ℕ) (run : Run) : Type 0 where
   calls : List Call
-  read : read_calls list ≡ some calls
+  read : read_calls list ≡ Some calls
   store : run.store ≡ store_after w calls
   out : run.out ≡ answered (store_answers w calls) before
 
 module _ (w list out : List ℕ) where
-  by-room : (cs : List Call) → read_calls list ≡ some cs → (b : Bool) → leb (3 * length cs) (length out) ≡ b → accepts (run_calls w out (some cs)).numbers ≡ true → Ran w list out (run_calls w out (some cs))
+  by-room : (cs : List Call) → read_calls list ≡ Some cs → (b : Bool) → leb (3 * length cs) (length out) ≡ b → accepts (run_calls w out (Some cs)).numbers ≡ true → Ran w list out (run_calls w out (Some cs))
   by-room cs e true i a = rw i record { calls = cs; read = e; store = refl; out = refl }
   by-room cs e false i a = absurd (false≢true (rw i at a))
 
   by-calls : (o : Option (List Call)) → read_calls list ≡ o → accepts (run_calls w out o).numbers ≡ true → Ran w list out (run_calls w out o)
-  by-calls none e a = absurd (false≢true a)
-  by-calls (some cs) e a = by-room cs e (leb (3 * length cs) (length out)) refl a
+  by-calls None e a = absurd (false≢true a)
+  by-calls (Some cs) e a = by-room cs e (leb (3 * length cs) (length out)) refl a
 
   by-store : (r : Result Machine) → accepts (run_read w list out r).numbers ≡ true → Ran w list out (run_read w list out r)
-  by-store (refused c) a = absurd (false≢true (sym (refusal-number c) ∙ a))
-  by-store (ok m) a = by-calls (read_calls list) refl a
+  by-store (Err c) a = absurd (false≢true (sym (refusal-number c) ∙ a))
+  by-store (Ok m) a = by-calls (read_calls list) refl a
 
   list-ran : accepts (apply_run w list out).numbers ≡ true → Ran w list out (apply_run w list out)
   unfolding apply_run
@@ -56,8 +56,8 @@ threes-answers n m (c ∷ cs) rest =
     rw (append_assoc a, take_at a (more ++ rest) 3 (three (machine_step n m c)), drop_at a (more ++ rest) 3 (three (machine_step n m c)), threes-answers n (next m (machine_step n m c)) cs rest)
   where
     three : (r : Result Change) → length (answer m r) ≡ 3
-    three (ok x) = refl
-    three (refused e) = refl
+    three (Ok x) = refl
+    three (Err e) = refl
 
 -- ---- the whole
 

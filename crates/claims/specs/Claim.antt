@@ -1,8 +1,7 @@
 -- The third demand, of what one call of the code leaves: a store is opened, a list of edits applied to it, and find run from one
 -- start for A, B, "A and B", "A or B" and "not A". Each fact has the demand's sentence beside it. Assumes nothing.
-use Rattle.std.specs.Prelude.{ℕ, zero, suc, ◌+◌, ◌≡◌, true, List, [], ◌∷◌, length, take, drop}
-use Rattle.std.proofs.Math.Option.{some}
-use Rattle.machine.specs.Answer.{opened_numbers, found_numbers, applied_numbers}
+use Rattle.std.specs.Prelude.{ℕ, zero, suc, ◌+◌, ◌≡◌, true, List, [], ◌∷◌, length, take, drop, Some}
+use Rattle.machine.specs.Answer.{opened_numbers, counted_numbers}
 use Rattle.machine.specs.Store.{Machine, lay_out, open_run}
 use Rattle.machine.specs.Query.{tables}
 use Rattle.machine.specs.Find.{Site, atoms_of, atoms_from, lowest, find_from}
@@ -19,11 +18,11 @@ use Rattle.claims.specs.declared.Answers.{Answers}
 abbrev pub runs_seen : Finds → (first second both either opposite : List ℕ) → Runs
 runs_seen r first second both either opposite =
     record {
-      first = (found_numbers r.first, first);
-      second = (found_numbers r.second, second);
-      both = (found_numbers r.both, both);
-      either = (found_numbers r.either, either);
-      opposite = (found_numbers r.opposite, opposite);
+      first = (counted_numbers r.first, first);
+      second = (counted_numbers r.second, second);
+      both = (counted_numbers r.both, both);
+      either = (counted_numbers r.either, either);
+      opposite = (counted_numbers r.opposite, opposite);
     }
 
 -- of the whole call: the numbers that opening and the list were answered with, the words of the store and of the edits' answers, the runs
@@ -38,7 +37,7 @@ abbrev pub seen : Answers → (store answers first second both either opposite :
 seen r store answers first second both either opposite =
     record {
       opened = opened_numbers r.opened;
-      applied = applied_numbers r.applied;
+      applied = counted_numbers r.applied;
       store = store;
       answers = answers;
       runs = runs_seen r.finds first second both either opposite;
@@ -58,14 +57,14 @@ pub record Facts (n : ℕ) (calls : List Call) (answers : List (List ℕ)) (m : 
   -- "added − removed is the number of stored atoms"
   pub counted : length (atoms_of m) + removed answers ≡ added calls answers
   -- the five runs, among the atoms under the start
-  pub queries : (atoms : List Site) → atoms_from start m ≡ some atoms → Queries tables (lowest start) atoms A B r
+  pub queries : (atoms : List Site) → atoms_from start m ≡ Some atoms → Queries tables (lowest start) atoms A B r
 
 -- ---- the claim
 
 -- every list of the edit calls, "refused ones included": the words of the list stand for calls
 pub record Claim (n : ℕ) (list start A B : List ℕ) (s : Seen) : Type 0 where
   pub calls : List Call
-  pub read : read_calls list ≡ some calls
+  pub read : read_calls list ≡ Some calls
   pub facts : Facts n calls (threes (length calls) s.answers) (machine_after n [] calls) start A B s.store s.runs
 
 -- "from a store just opened": opening was accepted, and so was the list, that is, its words are a list and its answers have room

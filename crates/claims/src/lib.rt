@@ -3,26 +3,26 @@
 #![tactic(auto)]
 
 ghost use Rattle.std.specs.Prelude.{◌≡◌, [], ◌∷◌, ◌++◌, length};
-ghost use Rattle.machine.specs.Answer.{found_numbers};
+ghost use Rattle.machine.specs.Answer.{counted_numbers};
 ghost use Rattle.machine.specs.Find.{find_from};
 ghost use Rattle.demands.specs.Queries.{runs_of};
 ghost use Rattle.claims.specs.Claim.{runs_seen, seen, whole_run, Claims};
 
-use machine::{Applied, Found, Opened};
+use machine::Refusal;
 
 #[derive(Clone, Copy)]
 pub struct Finds {
-    pub first: Found,
-    pub second: Found,
-    pub both: Found,
-    pub either: Found,
-    pub opposite: Found,
+    pub first: Result<u64, Refusal>,
+    pub second: Result<u64, Refusal>,
+    pub both: Result<u64, Refusal>,
+    pub either: Result<u64, Refusal>,
+    pub opposite: Result<u64, Refusal>,
 }
 
 #[derive(Clone, Copy)]
 pub struct Answers {
-    pub opened: Opened,
-    pub applied: Applied,
+    pub opened: Result<(), Refusal>,
+    pub applied: Result<u64, Refusal>,
     pub finds: Finds,
 }
 
@@ -35,8 +35,8 @@ fn find_joined(
     b: &[u64],
     code: u64,
     out: &mut [u64],
-) -> Found
-    ensures { (found_numbers result, out.new)
+) -> Result<u64, Refusal>
+    ensures { (counted_numbers result, out.new)
         ≡ find_from store.now start.now (a.now ++ (b.now ++ (code ∷ 0 ∷ 0 ∷ []))) out.old }
 {
     let mut tree = [0u64; 384];

@@ -1,9 +1,9 @@
 -- The table of symbols is the definition's, by computation. Assumes nothing.
+use Rattle.std.specs.Prelude.{None, Option, Some, option_map}
 use Prim.Native.Nat.{ℕ, zero, suc, ◌+◌, ◌*◌, ◌≤◌, ◌<◌}
 use mathlib.Core.Path.{◌≡◌, refl, sym, ap, ◌∙◌}
 use mathlib.Core.Bool.{Bool, true, false, not, ◌&&◌, cond}
 use mathlib.Core.List.{List, [], ◌∷◌}
-use mathlib.Core.Option.{Option, none, some, map}
 use native.Mathlib.Nat.{add-zero, zero-add}
 use native.Mathlib.Numerals.{add-one}
 use native.Mathlib.Omega.{arith}
@@ -45,19 +45,19 @@ stands first second symbol = same (first ∷ second ∷ []) (column_text (at_rig
 -- the symbols before element i are others
 pub record NotBefore (first second i : ℕ) : Type 0 where
   pub within : i ≤ 119
-  pub is : element_of (first ∷ second ∷ []) ≡ or_zero (map (λ j. i + j) (first_where (stands first second) (drop i ([] ∷ symbols))))
+  pub is : element_of (first ∷ second ∷ []) ≡ or_zero (option_map (λ j. i + j) (first_where (stands first second) (drop i ([] ∷ symbols))))
 
-any-map : (o : Option ℕ) → o ≡ map (λ j. 0 + j) o
-any-map none = refl
-any-map (some j) = ap some (sym (zero-add j))
+any-map : (o : Option ℕ) → o ≡ option_map (λ j. 0 + j) o
+any-map None = refl
+any-map (Some j) = ap Some (sym (zero-add j))
 
 and-true-last : (a b : Bool) → a && (b && true) ≡ a && b
 and-true-last a true = refl
 and-true-last a false = refl
 
-map-suc : (i : ℕ) (o : Option ℕ) → map (λ j. i + j) (map suc o) ≡ map (λ j. i + 1 + j) o
-map-suc i none = refl
-map-suc i (some j) = ap some (omega arith)
+map-suc : (i : ℕ) (o : Option ℕ) → option_map (λ j. i + j) (option_map suc o) ≡ option_map (λ j. i + 1 + j) o
+map-suc i None = refl
+map-suc i (Some j) = ap Some (omega arith)
 
 module _ (first second : ℕ) where
   pub not-before : NotBefore first second 0
@@ -71,22 +71,22 @@ module _ (first second : ℕ) where
         ∙ and-true-last (eqb first a) (eqb second b)
 
     split : (t : Bool) → eqb first a && eqb second b ≡ t
-        → first_where (stands first second) (drop i ([] ∷ symbols)) ≡ cond t (some 0) (map suc (first_where (stands first second) (drop (i + 1) ([] ∷ symbols))))
+        → first_where (stands first second) (drop i ([] ∷ symbols)) ≡ cond t (Some 0) (option_map suc (first_where (stands first second) (drop (i + 1) ([] ∷ symbols))))
     split t e =
         ap (first_where (stands first second)) (drop-cons ([] ∷ symbols) i [] l ∙ ap (λ (z : ℕ). symbol i ∷ drop z ([] ∷ symbols)) (sym (add-one i)))
-        ∙ ap (λ (z : Bool). cond z (some 0) (map suc (first_where (stands first second) (drop (i + 1) ([] ∷ symbols))))) (here ∙ e)
+        ∙ ap (λ (z : Bool). cond z (Some 0) (option_map suc (first_where (stands first second) (drop (i + 1) ([] ∷ symbols))))) (here ∙ e)
 
     pub found_here : eqb first a && eqb second b ≡ true → i ≡ element_of (first ∷ second ∷ [])
-    found_here e = sym (h.is ∙ ap (λ (o : Option ℕ). or_zero (map (λ j. i + j) o)) (split true e) ∙ add-zero i)
+    found_here e = sym (h.is ∙ ap (λ (o : Option ℕ). or_zero (option_map (λ j. i + j) o)) (split true e) ∙ add-zero i)
 
     pub not-here : eqb first a && eqb second b ≡ false → NotBefore first second (i + 1)
-    not-here e = record { within = omega arith; is = h.is ∙ ap (λ (o : Option ℕ). or_zero (map (λ j. i + j) o)) (split false e) ∙ ap or_zero (map-suc i (first_where (stands first second) (drop (i + 1) ([] ∷ symbols)))) }
+    not-here e = record { within = omega arith; is = h.is ∙ ap (λ (o : Option ℕ). or_zero (option_map (λ j. i + j) o)) (split false e) ∙ ap or_zero (map-suc i (first_where (stands first second) (drop (i + 1) ([] ∷ symbols)))) }
 
 pub nowhere : (first second i : ℕ) → NotBefore first second i → 119 ≤ i → 0 ≡ element_of (first ∷ second ∷ [])
 nowhere first second i h l =
     let k = h.within in
     let e : i ≡ 119 = omega arith in
-    sym (h.is ∙ ap (λ (z : ℕ). or_zero (map (λ j. z + j) (first_where (stands first second) (drop z ([] ∷ symbols))))) e)
+    sym (h.is ∙ ap (λ (z : ℕ). or_zero (option_map (λ j. z + j) (first_where (stands first second) (drop z ([] ∷ symbols))))) e)
 
 -- the elements of most atoms
 module _ (first second : ℕ) (p : first ≡ 32) where

@@ -3,14 +3,13 @@ use Prim.Native.Nat.{ℕ, ◌+◌, ◌-◌, ◌*◌, ◌/◌, ◌≤◌, ◌<◌
 use mathlib.Core.Path.{◌≡◌, sym, ap, ◌∙◌}
 use mathlib.Core.List.{List, [], ◌∷◌, ◌++◌, append-nil}
 use native.Mathlib.Omega.{arith}
-use lib.ListN.{length, take, drop, replicate, set, length-append, length-replicate, length-take, drop_of_length-le}
+use lib.ListN.{length, take, drop, replicate, set, length-append, length-replicate, drop_of_length-le}
 use lib.Seq.{length-take-le, take-append_seam}
-use borrow.Author.Tests.{le-leb, lt-leb}
-use Rattle.machine.specs.Answer.{opened_numbers}
+use borrow.Author.Tests.{le-leb}
+use Rattle.std.specs.Prelude.{Ok, Err, IsErrAnd}
+use Rattle.machine.specs.Answer.{Result, opened_numbers}
 use Rattle.machine.specs.Store.{records, laid, lay_out, end, read_store}
 use Rattle.machine.specs.declared.Refusal.{Refusal}
-use Rattle.machine.specs.declared.Refusal.TheVariants.{BadLength, NoCapacity}
-use Rattle.machine.specs.declared.Opened.TheVariants.{Done, Refused}
 use Rattle.laws.specs.Grouped.{concat-chunks, chunks-length}
 use Rattle.laws.specs.Layout.{read-parts, records-read}
 use Rattle.moves.specs.Over.{over}
@@ -18,7 +17,8 @@ use Rattle.moves.proofs.Laws.{over-length, over-snoc}
 use Rattle.seek.specs.Seek.{held, Good}
 use Rattle.store.specs.Store.{checked_by}
 use Rattle.store.proofs.Laws.{refused-store}
-use Rattle.store.specs.declared.Checked as Checked
+use Rattle.store.proofs.Steps.{good}
+use Rattle.laws.specs.Exits.{exit-err}
 use Rattle.copies.specs.Copy.{room, copied_into, copy_run}
 
 -- ---- the words
@@ -54,8 +54,8 @@ module _ (from to : List ℕ) (g : Good from) (n : ℕ) (count : n ≡ length (r
       let m = (read-parts from (held from) g).multiple in
       omega arith
 
-  pub words-there : n * 12 ≤ length from
-  words-there = let e = words-end in let l = (read-parts from (held from) g).low in omega arith
+  pub words-there : length (take (n * 12) from) ≡ n * 12
+  words-there = let e = words-end in let l = (read-parts from (held from) g).low in length-take-le (n * 12) from (omega arith)
 
   -- the records' words are the first ones
   copied-words : (k : ℕ) → lay_out k (held from) ≡ laid k (take (n * 12) from)
@@ -65,31 +65,19 @@ module _ (from to : List ℕ) (g : Good from) (n : ℕ) (count : n ≡ length (r
       let q : 12 * (end from / 12) ≡ n * 12 = omega arith in
       rw (records-read from (held from) g, concat-chunks (end from / 12) from, q)
 
-  module _ (some : 1 ≤ length to) (most : length to ≤ 1200001) where
-    pub copy-full : (length to - 1) / 12 < n → (opened_numbers (Refused NoCapacity), to) ≡ copied_into to (room (length to) (held from))
-    copy-full h = rw (le-leb 1 (length to) some, le-leb (length to) 1200001 most, lt-leb (length (records (held from))) ((length to - 1) / 12) (omega arith))
-
-    module _ (fits : n ≤ (length to - 1) / 12) where
-      pub words-fit : length (take (n * 12 - 0) (drop 0 from)) < length to
-      words-fit = rw (length-take (n * 12 - 0) from) (omega arith)
-
-      pub copy_done : (to' : List ℕ) → to' ≡ laid (length to) (take (n * 12 - 0) (drop 0 from)) → (opened_numbers Done, to') ≡ copied_into to (room (length to) (held from))
-      copy_done to' e =
-          let z : n * 12 - 0 ≡ n * 12 = omega arith in
-          rw (le-leb 1 (length to) some, le-leb (length to) 1200001 most, le-leb (length (records (held from))) ((length to - 1) / 12) (omega arith), copied-words (length to))
-          (ap (λ (w : List ℕ). (opened_numbers Done, w)) (rw z at e))
+  pub copy_done : 1 ≤ length to → length to ≤ 1200001 → n ≤ (length to - 1) / 12 → (to' : List ℕ) → to' ≡ laid (length to) (take (n * 12) from)
+      → (opened_numbers (Ok tt), to') ≡ copied_into to (room (length to) (held from))
+  copy_done some most fits to' e =
+      rw (le-leb 1 (length to) some, le-leb (length to) 1200001 most, le-leb (length (records (held from))) ((length to - 1) / 12) (omega arith), copied-words (length to))
+      (ap (λ (w : List ℕ). (opened_numbers (Ok tt), w)) e)
 
 module _ (from to : List ℕ) where
-  pub copy-short : length to < 1 → (opened_numbers (Refused BadLength), to) ≡ copied_into to (room (length to) (held from))
-  copy-short h = rw (lt-leb 1 (length to) h)
-
-  pub copy-long : 1200001 < length to → (opened_numbers (Refused BadLength), to) ≡ copied_into to (room (length to) (held from))
-  copy-long h = rw (le-leb 1 (length to) (omega arith), lt-leb (length to) 1200001 h)
-
-  pub copy-refused : {c : Checked.Checked} {r : Refusal} → c ≡ checked_by (read_store from) → c ≡ Checked.TheVariants.Refused r → (opened_numbers (Refused r), to) ≡ copy_run from to
+  pub copy-refused : {c : Result ℕ} {r : Refusal} → c ≡ checked_by (read_store from) → c ≡ Err r → (a : Result (Unit {0})) → IsErrAnd a (λ x. x ≡ r) → (opened_numbers a, to) ≡ copy_run from to
   unfolding copy_run
-  copy-refused h e = rw (refused-store from (sym e ∙ h))
+  copy-refused {r = r} h e a o = rw (exit-err a r o, refused-store from (sym e ∙ h))
 
   pub copied : Good from → {x : List ℕ × List ℕ} → x ≡ copied_into to (room (length to) (held from)) → x ≡ copy_run from to
   unfolding copy_run
   copied g e = rw g e
+
+pub ruleset answered = (good, ended, laid_out, words-there, copy_done, copied)

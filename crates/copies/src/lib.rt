@@ -1,5 +1,5 @@
 // A store copied into other words, so that it gets room for more records.
-#![tactic(auto)]
+#![tactic(auto, using(crate::proofs::Laws::answered))]
 
 ghost use Rattle.std.specs.Prelude.{◌≡◌, ◌<◌, length, take};
 ghost use Rattle.machine.specs.Answer.{opened_numbers};
@@ -7,8 +7,7 @@ ghost use Rattle.machine.specs.Store.{laid};
 ghost use Rattle.seek.specs.Seek.{held, Good};
 ghost use Rattle.copies.specs.Copy.{room, copied_into, copy_run};
 
-use machine::{Opened, Record, Refusal};
-use store::Checked;
+use machine::{Record, Refusal};
 
 // After the words up to `end` zeros, then the trailer.
 fn end_at(to: &mut [u64], end: usize)
@@ -29,32 +28,26 @@ fn lay_out(words: &[u64], to: &mut [u64])
 }
 
 // From a store that was checked.
-fn copy_good(from: &[u64], to: &mut [u64]) -> Opened
+fn copy_good(from: &[u64], to: &mut [u64]) -> Result<(), Refusal>
     requires { Good from.now }
     ensures { (opened_numbers result, to.new) ≡ copied_into to.old (room (length to.old) (held from.now)) }
 {
     let n = to.len();
-    if n < 1 {
-        return Opened::Refused(Refusal::BadLength);
-    }
-    if 1200001 < n {
-        return Opened::Refused(Refusal::BadLength);
+    if n < 1 || 1200001 < n {
+        return Err(Refusal::BadLength);
     }
     let count = seek::record_count(from);
     if (n - 1) / Record::WIDTH < count {
-        return Opened::Refused(Refusal::NoCapacity);
+        return Err(Refusal::NoCapacity);
     }
-    lay_out(&from[0..count * Record::WIDTH], to);
-    Opened::Done
+    lay_out(&from[..count * Record::WIDTH], to);
+    Ok(())
 }
 
 // Whatever `to` held before, it then holds the structure of `from`.
-pub fn copy(from: &[u64], to: &mut [u64]) -> Opened
+pub fn copy(from: &[u64], to: &mut [u64]) -> Result<(), Refusal>
     ensures { (opened_numbers result, to.new) ≡ copy_run from.now to.old }
 {
-    let checked = store::check(from);
-    match checked {
-        Checked::Refused(refusal) => Opened::Refused(refusal),
-        Checked::Good(_atoms) => copy_good(from, to),
-    }
+    store::check(from)?;
+    copy_good(from, to)
 }

@@ -4,13 +4,12 @@ use mathlib.Core.Path.{◌≡◌, refl, sym, ap, ◌∙◌}
 use mathlib.Core.Bool.{Bool, true, false, cond}
 use mathlib.Core.List.{List, [], ◌∷◌, ◌++◌}
 use native.Mathlib.Omega.{arith}
-use lib.ListN.{length, take, set, length-append}
+use lib.ListN.{length, set, length-append}
 use lib.Dec.{ltb}
 use borrow.Author.Tests.{lt-ltb, le-ltb}
 use Rattle.machine.specs.Program.{digit, digits, decimal}
 use Rattle.moves.specs.Over.{over}
 use Rattle.moves.proofs.Laws.{over_none, over-over, over-cons, over-length}
-use Rattle.moves.proofs.Turns.{write-end}
 use Rattle.decimals.specs.Put.{put_at}
 
 -- ---- bytes that are written
@@ -36,12 +35,6 @@ put-room at a m k b s s₁ l h e =
     let p : a ≡ at + length b = ap (λ (x : ℕ × List ℕ). x.0) e in
     let q : length s₁ ≡ length s = ap (λ (x : ℕ × List ℕ). length x.1) e ∙ over-length at b s (omega arith) in
     omega arith
-
-pub bytes-end : (at k : ℕ) (b s₀ s : List ℕ) → k ≤ length b → length b ≤ k → s ≡ over at (take k b) s₀ → (at + k, s) ≡ put_at b at s₀
-bytes-end at k b s₀ s l h e =
-    let p : k ≡ length b = omega arith in
-    let q = write-end s₀ s b at k h e in
-    λ i. (at + p i, q i)
 
 -- ---- digits
 

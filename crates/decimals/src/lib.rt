@@ -19,12 +19,8 @@ pub fn put_bytes(text: &mut [u8], at: usize, b: &[u8]) -> usize
     requires { at + length b.now ≤ length text.old }
     ensures { (result, text.new) ≡ put_at b.now at text.old }
 {
-    let mut written: usize = 0;
-    while written < b.len() {
-        text[at + written] = b[written];
-        written += 1;
-    }
-    at + written
+    moves::write_over(text, at, b);
+    at + b.len()
 }
 
 // A number's decimal digits, at most `places` of them.

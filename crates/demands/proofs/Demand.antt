@@ -1,12 +1,12 @@
 -- The third demand, proved: one theorem over any list of edits from a store just opened, and any runs of find after it. Assumes nothing.
+use Rattle.std.specs.Prelude.{Err, None, Ok, Option, Some}
 use Prim.Native.Nat.{ℕ, ◌+◌}
 use mathlib.Core.Path.{◌≡◌, refl, ap}
 use mathlib.Core.Bool.{Bool, true, false, cond, false≢true}
 use mathlib.Core.List.{List, [], ◌∷◌}
-use mathlib.Core.Option.{Option, none, some}
 use native.Mathlib.Omega.{arith}
 use lib.ListN.{length, replicate}
-use Rattle.machine.specs.Answer.{Result, ok, refused}
+use Rattle.machine.specs.Answer.{Result}
 use Rattle.machine.specs.Store.{Machine, stored, lay_out, good_length, read_store, open_run}
 use Rattle.machine.specs.Query.{tables, read_tree, not_tree}
 use Rattle.machine.specs.Find.{Site, atoms_of, atoms_from, lowest, hits_from, find_from, find_run}
@@ -25,8 +25,8 @@ use Rattle.demands.proofs.Queries.{Listed, run-listed, queries}
 module _ (n : ℕ) (m : Machine) (c : Call) (g : good_length n ≡ true) (f : Fit n m) where
   step-laid : (step : Machine → Result Change) (r : Result Change) → step m ≡ r → step_by (lay_out n m) step ≡ (answer m r, lay_out n (next m r))
   unfolding step_by
-  step-laid step (ok x) e = rw (read-lay_out n m g f, e, lay_out-length n m (fit_words n m g f))
-  step-laid step (refused x) e = rw (read-lay_out n m g f, e)
+  step-laid step (Ok x) e = rw (read-lay_out n m g f, e, lay_out-length n m (fit_words n m g f))
+  step-laid step (Err x) e = rw (read-lay_out n m g f, e)
 
   pub store_step_lem : store_step (lay_out n m) c ≡ (answer m (machine_step n m c), lay_out n (next m (machine_step n m c)))
   unfolding store_step
@@ -57,16 +57,16 @@ steps n m (c ∷ cs) g f =
 
 -- ---- find on words that hold a machine
 
-module _ (m : Machine) (w : List ℕ) (e : read_store w ≡ ok m) (start : List ℕ) where
-  pub find-listed : (atoms : List Site) → atoms_from start m ≡ some atoms → (t out : List ℕ) → Accepted (find_from w start t out) → Listed tables (lowest start) atoms t (find_from w start t out)
+module _ (m : Machine) (w : List ℕ) (e : read_store w ≡ Ok m) (start : List ℕ) where
+  pub find-listed : (atoms : List Site) → atoms_from start m ≡ Some atoms → (t out : List ℕ) → Accepted (find_from w start t out) → Listed tables (lowest start) atoms t (find_from w start t out)
   unfolding find_from hits_from
   find-listed atoms u t out a = rw (e, u) (run-listed tables (lowest start) atoms (under-five (stored m) atoms (under-start start m atoms u)) t out (read_tree t) refl (rw (e, u) at a))
 
   -- an accepted run has a start
-  pub start-found : (o : Option (List Site)) → atoms_from start m ≡ o → (t out : List ℕ) → Accepted (find_from w start t out) → (atoms : List Site) × (atoms_from start m ≡ some atoms)
+  pub start-found : (o : Option (List Site)) → atoms_from start m ≡ o → (t out : List ℕ) → Accepted (find_from w start t out) → (atoms : List Site) × (atoms_from start m ≡ Some atoms)
   unfolding find_from hits_from
-  start-found none u t out a = absurd (false≢true (rw (e, u) at a))
-  start-found (some atoms) u t out a = (atoms, u)
+  start-found None u t out a = absurd (false≢true (rw (e, u) at a))
+  start-found (Some atoms) u t out a = (atoms, u)
 
 -- ---- a store just opened
 
@@ -105,7 +105,7 @@ module _ (w : List ℕ) (calls : List Call) (opens : Accepted (open_run w)) wher
   is-counted : length (atoms_of (machine w calls)) + removed (answers w calls) ≡ added calls (answers w calls)
   is-counted = rw is-answered (let c = all-steps.counted in omega (arith, atoms-stored (machine w calls)))
 
-  reads : read_store (after w calls) ≡ ok (machine w calls)
+  reads : read_store (after w calls) ≡ Ok (machine w calls)
   reads = rw is_held (read-lay_out (length w) (machine w calls) accepted all-steps.fit)
 
   -- the third demand

@@ -1,12 +1,12 @@
 -- Which answers change where hetero goes first, proved for any names. Assumes nothing.
+use Rattle.std.specs.Prelude.{Err, None, Ok, Option, Some}
 use Prim.Native.Nat.{ℕ}
 use mathlib.Core.Path.{◌≡◌, refl, sym, ap, ◌∙◌}
 use mathlib.Core.Bool.{Bool, true, false, not, ◌&&◌, ◌||◌, cond, false≢true}
 use mathlib.Core.List.{List, [], ◌∷◌, map}
-use mathlib.Core.Option.{Option, none, some}
 use borrow.Author.Tests.{not-true}
 use Rattle.machine.specs.Lists.{is_some, any, keep, filter, and_then}
-use Rattle.machine.specs.Answer.{Result, ok, refused}
+use Rattle.machine.specs.Answer.{Result}
 use Rattle.machine.specs.Record.{Conformer, Atom, read_out}
 use Rattle.machine.specs.Kleene.{decided, not_t, and_t, xor_t, is_hit, is_true}
 use Rattle.machine.specs.Query.{Place, Names, only_if, between, window, known, member, among_residues, hetero_first, term_value, Stack, step, run, the_one, value_of, read_tree, tree_value}
@@ -46,16 +46,16 @@ module _ (v w : Term → Tri) (agree : (t : Term) → is_side t ≡ false → v 
       ap (λ (o : Stack). and_then o (run v ns)) (step_same n b.0 s) ∙ go (step w n s) (run-same ns b.1)
     where
       go : (o : Stack) → ((r : List Tri) → run v ns r ≡ run w ns r) → and_then o (run v ns) ≡ and_then o (run w ns)
-      go none f = refl
-      go (some r) f = f r
+      go None f = refl
+      go (Some r) f = f r
 
   without-same : (t : List ℕ) → asks_sides (read_tree t) ≡ false → tree_value v t ≡ tree_value w t
   unfolding tree_value
   without-same t h = go (read_tree t) h
     where
       go : (r : Result (List Node)) → asks_sides r ≡ false → value_of v r ≡ value_of w r
-      go (ok ns) h = ap the_one (run-same ns h [])
-      go (refused x) h = refl
+      go (Ok ns) h = ap the_one (run-same ns h [])
+      go (Err x) h = refl
 
 -- tests that agree on the elements that another leaves
 filter-within : {A : Type 0} (p q r : A → Bool) → ((x : A) → r x ≡ true → p x ≡ q x) → (xs : List A) → filter p (filter r xs) ≡ filter q (filter r xs)
@@ -77,8 +77,8 @@ module _ (names : Names) (o : Option Conformer) (g : Atom → Bool) where
 
   -- the conformer's part is what it was
   among-and : (u : Option Conformer) (x y z : Tri) → x ≡ and_t y z → among_residues names u x ≡ and_t (among_residues names u y) z
-  among-and none x y z h = h
-  among-and (some c) x y z h = go (member names.residues c.name)
+  among-and None x y z h = h
+  among-and (Some c) x y z h = go (member names.residues c.name)
     where
       go : (b : Bool) → cond b x False ≡ and_t (cond b y False) z
       go true = h
@@ -91,8 +91,8 @@ module _ (names : Names) (o : Option Conformer) (g : Atom → Bool) where
   first_of false false = refl
 
   atom-and : (p : Option Atom) → now p ≡ and_t (known p g) (not_t (hetero p))
-  atom-and none = refl
-  atom-and (some a) = first_of (read_out a).hetero (g a)
+  atom-and None = refl
+  atom-and (Some a) = first_of (read_out a).hetero (g a)
 
   and-not-hetero : (p : Option Atom) → among_residues names o (now p) ≡ and_t (among_residues names o (known p g)) (not_t (hetero p))
   and-not-hetero p = among-and o (now p) (known p g) (not_t (hetero p)) (atom-and p)
@@ -102,14 +102,14 @@ module _ (names : Names) (o : Option Conformer) (g : Atom → Bool) where
   untrue false h = refl
 
   not-hetero : (p : Option Atom) → is_true (hetero p) ≡ false → now p ≡ known p g
-  not-hetero none h = refl
-  not-hetero (some a) h = rw (untrue (read_out a).hetero h)
+  not-hetero None h = refl
+  not-hetero (Some a) h = rw (untrue (read_out a).hetero h)
 
 module _ (names : Names) (e : Place) where
   -- what a term's value is, by what it makes of an atom's name
   abbrev now_by : Option (Bool → Bool) → Tri → Tri
-  now_by none value = value
-  now_by (some f) value = among_residues names e.conformer (known e.atom (λ a. hetero_first a (f (member names.atoms a.name))))
+  now_by None value = value
+  now_by (Some f) value = among_residues names e.conformer (known e.atom (λ a. hetero_first a (f (member names.atoms a.name))))
 
   now-value : (t : Term) → term_value names e t ≡ now_by (side_of t) (term_value names e t)
   unfolding term_value
@@ -141,15 +141,15 @@ module _ (names : Names) (e : Place) where
   sides t h = now-value t ∙ go (side_of t) h
     where
       go : (o : Option (Bool → Bool)) → is_some o ≡ true → now_by o (term_value names e t) ≡ and_t (former_by names e o (term_value names e t)) (not_t (known e.atom (λ a. (read_out a).hetero)))
-      go none k = absurd (false≢true k)
-      go (some f) k = and-not-hetero names e.conformer (λ a. f (member names.atoms a.name)) e.atom
+      go None k = absurd (false≢true k)
+      go (Some f) k = and-not-hetero names e.conformer (λ a. f (member names.atoms a.name)) e.atom
 
   pub same-others : (t : Term) → is_side t ≡ false → term_value names e t ≡ former_value names e t
   same-others t h = go (side_of t) h
     where
       go : (o : Option (Bool → Bool)) → is_some o ≡ false → term_value names e t ≡ former_by names e o (term_value names e t)
-      go none k = refl
-      go (some f) k = absurd (false≢true (sym k))
+      go None k = refl
+      go (Some f) k = absurd (false≢true (sym k))
 
   settles : term_value names e Hetero ≡ True → (t : Term) → is_side t ≡ true → term_value names e t ≡ False
   settles h t k = sides t k ∙ ap (λ (x : Tri). and_t (former_value names e t) (not_t x)) h ∙ and-false (former_value names e t)
@@ -159,19 +159,19 @@ module _ (names : Names) (e : Place) where
   same-terms h t = now-value t ∙ go (side_of t)
     where
       go : (o : Option (Bool → Bool)) → now_by o (term_value names e t) ≡ former_by names e o (term_value names e t)
-      go none = refl
-      go (some f) = ap (among_residues names e.conformer) (not-hetero names e.conformer (λ a. f (member names.atoms a.name)) e.atom h)
+      go None = refl
+      go (Some f) = ap (among_residues names e.conformer) (not-hetero names e.conformer (λ a. f (member names.atoms a.name)) e.atom h)
 
 -- exactly one of a test and its opposite is true
 one-true : (names : Names) (o : Option Conformer) (p : Option Atom) (g : Atom → Bool) → known p (λ a. (read_out a).hetero) ≡ True
     → xor_t (among_residues names o (known p g)) (among_residues names o (known p (λ a. not (g a)))) ≡ among_residues names o True
-one-true names o none g h = let z : ◌≡◌ {A = Bool} false true = ap is_true h in absurd (false≢true z)
-one-true names none (some a) g h = either (g a)
+one-true names o None g h = let z : ◌≡◌ {A = Bool} false true = ap is_true h in absurd (false≢true z)
+one-true names None (Some a) g h = either (g a)
   where
     either : (b : Bool) → xor_t (decided b) (decided (not b)) ≡ True
     either true = refl
     either false = refl
-one-true names (some c) (some a) g h = go (member names.residues c.name) (g a)
+one-true names (Some c) (Some a) g h = go (member names.residues c.name) (g a)
   where
     go : (m b : Bool) → xor_t (cond m (decided b) False) (cond m (decided (not b)) False) ≡ cond m True False
     go true true = refl

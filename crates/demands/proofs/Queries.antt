@@ -1,5 +1,6 @@
 -- The facts about queries, for any names, any first kind that is known and any atoms whose own numbers rise: every list is picked from the atoms by a test.
 -- Assumes nothing.
+use Rattle.std.specs.Prelude.{Err, Ok}
 use Prim.Native.Nat.{ℕ, ◌*◌}
 use mathlib.Core.Path.{◌≡◌, refl, sym, ap, ◌∙◌}
 use mathlib.Core.Bool.{Bool, true, false, ◌&&◌, ◌||◌, false≢true}
@@ -9,7 +10,7 @@ use lib.ListN.{length, drop, length-map}
 use lib.Seq.{take_at, drop_at}
 use lib.Dec.{leb}
 use Rattle.machine.specs.Lists.{filter}
-use Rattle.machine.specs.Answer.{Result, ok, refused, ◌>>◌}
+use Rattle.machine.specs.Answer.{Result, ◌>>◌}
 use Rattle.machine.specs.Kleene.{not_t, is_hit, is_undecided}
 use Rattle.machine.specs.Query.{Names, read_tree, and_tree, or_tree, not_tree}
 use Rattle.machine.specs.Find.{Site, value_from, hits_among, hit_words, written}
@@ -38,7 +39,7 @@ module _ (names : Names) (low : ℕ) (atoms : List Site) where
 
   pub record Listed (t : List ℕ) (run : List ℕ × List ℕ) : Type 0 where
     pub nodes : List Node
-    pub tree : read_tree t ≡ ok nodes
+    pub tree : read_tree t ≡ Ok nodes
     pub hits : list run ≡ hits_among names low t atoms
     pub number : count run ≡ length (list run)
 
@@ -46,16 +47,16 @@ module _ (names : Names) (low : ℕ) (atoms : List Site) where
     abbrev all : List (List ℕ)
     all = hits_among names low t atoms
 
-    written-ok : (ns : List Node) → read_tree t ≡ ok ns → (b : Bool) → leb (5 * length all) (length out) ≡ b → Accepted (written out (ok all)) → Listed t (written out (ok all))
+    written-ok : (ns : List Node) → read_tree t ≡ Ok ns → (b : Bool) → leb (5 * length all) (length out) ≡ b → Accepted (written out (Ok all)) → Listed t (written out (Ok all))
     unfolding list
     written-ok ns e true i a =
         let l = fives-words all (drop (5 * length all) out) (hits-five names low t atoms five) in
         rw i record { nodes = ns; tree = e; hits = l; number = ap length (sym l) }
     written-ok ns e false i a = absurd (false≢true (rw i at a))
 
-    pub run-listed : (r : Result (List Node)) → read_tree t ≡ r → Accepted (written out (r >> ok all)) → Listed t (written out (r >> ok all))
-    run-listed (ok ns) e a = written-ok ns e (leb (5 * length all) (length out)) refl a
-    run-listed (refused c) e a = absurd (false≢true (sym (refusal-number c) ∙ a))
+    pub run-listed : (r : Result (List Node)) → read_tree t ≡ r → Accepted (written out (r >> Ok all)) → Listed t (written out (r >> Ok all))
+    run-listed (Ok ns) e a = written-ok ns e (leb (5 * length all) (length out)) refl a
+    run-listed (Err c) e a = absurd (false≢true (sym (refusal-number c) ∙ a))
 
   -- ---- the facts
 

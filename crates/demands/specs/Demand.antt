@@ -1,7 +1,6 @@
 -- The third demand: what it says of any list of edits from a store just opened, and of any runs of find after it, from any start. It is proved in
 -- proofs/Demand.antt. Assumes nothing.
-use Rattle.std.specs.Prelude.{ℕ, ◌+◌, ◌≡◌, List, [], length}
-use Rattle.std.proofs.Math.Option.{some}
+use Rattle.std.specs.Prelude.{ℕ, ◌+◌, ◌≡◌, List, [], length, Some}
 use Rattle.machine.specs.Store.{Machine, lay_out, open_run}
 use Rattle.machine.specs.Query.{tables}
 use Rattle.machine.specs.Find.{Site, atoms_of, atoms_from, lowest, find_from}
@@ -31,5 +30,5 @@ module _ (w : List ℕ) (calls : List Call) where
     pub counted : length (atoms_of machine) + removed answers ≡ added calls answers
     -- any runs of find on that store from one start, which with no index is the whole store. Change request §4: "stored atoms are then those under the start,
     -- their number stands for added − removed, and lists that are compared come from one start"
-    pub queries : (start : List ℕ) (atoms : List Site) → atoms_from start machine ≡ some atoms → (A B first second both either opposite : List ℕ)
+    pub queries : (start : List ℕ) (atoms : List Site) → atoms_from start machine ≡ Some atoms → (A B first second both either opposite : List ℕ)
         → Queries tables (lowest start) atoms A B (runs_of (find_from after start) A B first second both either opposite)

@@ -1,9 +1,7 @@
 -- Change request §6, "know what happens to saved queries": what is claimed of runs of find before and after a missing element is set. It is proved in
 -- proofs/Filling.antt. Assumes nothing.
-use Rattle.std.specs.Prelude.{ℕ, suc, ◌≤◌, ◌≡◌, List, [], ◌∷◌}
-use Rattle.std.proofs.Math.Option.{some}
+use Rattle.std.specs.Prelude.{ℕ, suc, ◌≤◌, ◌≡◌, List, [], ◌∷◌, Ok, Some}
 use Rattle.machine.specs.Lists.{nth}
-use Rattle.machine.specs.Answer.{ok}
 use Rattle.machine.specs.Store.{Machine, read_store}
 use Rattle.machine.specs.Find.{Site, atoms_from, find_from}
 use Rattle.machine.specs.Edit.{SetElement, store_step}
@@ -25,11 +23,11 @@ module _ (w : List ℕ) (i c r f a e : ℕ) where
   pub record Filling : Type 0 where
     -- that atom, of those that the words hold
     pub machine : Machine
-    pub holds : read_store w ≡ ok machine
+    pub holds : read_store w ≡ Ok machine
     pub atoms : List Site
-    pub under : atoms_from (i ∷ c ∷ r ∷ f ∷ []) machine ≡ some atoms
+    pub under : atoms_from (i ∷ c ∷ r ∷ f ∷ []) machine ≡ Some atoms
     pub atom : Site
-    pub there : nth a atoms ≡ some atom
+    pub there : nth a atoms ≡ Some atom
     -- a run that was accepted is accepted again
     pub again : (start t out : List ℕ) → Accepted (find_from w start t out) → Accepted (find_from filled start t out)
     -- "For any tree", from any start, each run with an output of its own

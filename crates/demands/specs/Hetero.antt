@@ -2,10 +2,9 @@
 -- proofs/Hetero.antt. Assumes nothing.
 -- A place is what is known of an atom and of what stands above it. Find from a start asks a tree at each atom with the kinds below the start known, a tree
 -- removal with the atom alone known, and where a search turns back the levels above an atom are known: each is a place.
-use Rattle.std.specs.Prelude.{ℕ, ◌≡◌, Bool, true, false, not, List, map}
-use Rattle.std.proofs.Math.Option.{Option, none, some}
+use Rattle.std.specs.Prelude.{ℕ, ◌≡◌, Bool, true, false, not, List, map, Err, None, Ok, Option, Some}
 use Rattle.machine.specs.Lists.{is_some, any, filter}
-use Rattle.machine.specs.Answer.{Result, ok, refused}
+use Rattle.machine.specs.Answer.{Result}
 use Rattle.machine.specs.Kleene.{not_t, and_t, xor_t, is_hit, is_true}
 use Rattle.machine.specs.Query.{Place, Names, window, known, member, among_residues, term_value, read_tree, tree_value}
 use Rattle.machine.specs.Find.{Site, hits_among}
@@ -20,28 +19,28 @@ use Rattle.machine.specs.declared.Node.TheVariants.{Single, Binary, Not, Known}
 
 -- what each makes of whether an atom's name is one of the backbone's; no other term is one of the two
 abbrev pub side_of : Term → Option (Bool → Bool)
-side_of (ModelSerialNumber n) = none
-side_of (ModelSerialNumberRange a b) = none
-side_of (ChainId n) = none
-side_of (ChainIdRange a b) = none
-side_of (ResidueSerialNumber n) = none
-side_of (ResidueSerialNumberRange a b) = none
-side_of (ResidueInsertionCode n) = none
-side_of (ResidueId a b) = none
-side_of (ConformerName n) = none
-side_of (ConformerAlternativeLocation n) = none
-side_of (ConformerId a b) = none
-side_of (AtomSerialNumber n) = none
-side_of (AtomSerialNumberRange a b) = none
-side_of (AtomName n) = none
-side_of (Element n) = none
-side_of (BFactor x) = none
-side_of (BFactorRange a b) = none
-side_of (Occupancy x) = none
-side_of (OccupancyRange a b) = none
-side_of Backbone = some (λ b. b)
-side_of SideChain = some not
-side_of Hetero = none
+side_of (ModelSerialNumber n) = None
+side_of (ModelSerialNumberRange a b) = None
+side_of (ChainId n) = None
+side_of (ChainIdRange a b) = None
+side_of (ResidueSerialNumber n) = None
+side_of (ResidueSerialNumberRange a b) = None
+side_of (ResidueInsertionCode n) = None
+side_of (ResidueId a b) = None
+side_of (ConformerName n) = None
+side_of (ConformerAlternativeLocation n) = None
+side_of (ConformerId a b) = None
+side_of (AtomSerialNumber n) = None
+side_of (AtomSerialNumberRange a b) = None
+side_of (AtomName n) = None
+side_of (Element n) = None
+side_of (BFactor x) = None
+side_of (BFactorRange a b) = None
+side_of (Occupancy x) = None
+side_of (OccupancyRange a b) = None
+side_of Backbone = Some (λ b. b)
+side_of SideChain = Some not
+side_of Hetero = None
 
 abbrev pub is_side : Term → Bool
 is_side t = is_some (side_of t)
@@ -54,15 +53,15 @@ asks_side Not = false
 asks_side (Known b) = false
 
 abbrev pub asks_sides : Result (List Node) → Bool
-asks_sides (ok ns) = any asks_side ns
-asks_sides (refused r) = false
+asks_sides (Ok ns) = any asks_side ns
+asks_sides (Err r) = false
 
 -- ---- before the request
 
 -- the two went by the conformer's name and the atom's, as they do in the crate; the other terms had the values that they have
 abbrev pub former_by : Names → Place → Option (Bool → Bool) → Tri → Tri
-former_by names e none value = value
-former_by names e (some f) value = among_residues names e.conformer (known e.atom (λ a. f (member names.atoms a.name)))
+former_by names e None value = value
+former_by names e (Some f) value = among_residues names e.conformer (known e.atom (λ a. f (member names.atoms a.name)))
 
 abbrev pub former_value : Names → Place → Term → Tri
 former_value names e t = former_by names e (side_of t) (term_value names e t)

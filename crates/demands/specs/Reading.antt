@@ -1,8 +1,7 @@
 -- Change request §9, "PDB lines in": what is claimed of the texts that are taken, of the store that is filled, and of the way back. It is proved in
 -- proofs/Reading.antt. Assumes nothing.
-use Rattle.std.specs.Prelude.{ℕ, ◌<◌, ◌^◌, ◌≡◌, true, false, List, [], ◌∷◌, map, length}
+use Rattle.std.specs.Prelude.{ℕ, ◌<◌, ◌^◌, ◌≡◌, true, false, List, [], ◌∷◌, map, length, Ok}
 use Rattle.machine.specs.Lists.{is_some, all}
-use Rattle.machine.specs.Answer.{ok}
 use Rattle.machine.specs.Store.{Machine, records_of, group, good_length, good_layout, read_store, open_run}
 use Rattle.machine.specs.Edit.{store_after, store_answers}
 use Rattle.machine.specs.Demand.{accepts}
@@ -27,7 +26,7 @@ pub record Written (t : List ℕ) : Type 0 where
 -- a text that is read into these words, and written again from them
 pub record ComesBack (t w : List ℕ) : Type 0 where
   pub taken : accepts (read_run t w).0 ≡ true
-  pub again : store_text (read_run t w).1 ≡ ok t
+  pub again : store_text (read_run t w).1 ≡ Ok t
 
 pub record Reading : Type 0 where
   -- "The reader takes exactly the text that the writer of §1, with §5, could make". A slice has fewer than 2 ^ 64 bytes; the
@@ -44,4 +43,4 @@ pub record Reading : Type 0 where
   pub accepted : (t w : List ℕ) → accepts (read_run t w).0 ≡ true → all accepts (store_answers (open_run w).1 (calls_from 0 (entries_in t))) ≡ true
   -- "For a structure in which no two siblings have equal ids, no chain, residue or conformer is empty, and the writer accepts it, reading the text
   -- into a store of equal length and writing again gives the same bytes."
-  pub comes_back : (w w₂ : List ℕ) (m : Machine) (t : List ℕ) → U64 w → read_store w ≡ ok m → tidy_machine m ≡ true → store_text w ≡ ok t → length w₂ ≡ length w → ComesBack t w₂
+  pub comes_back : (w w₂ : List ℕ) (m : Machine) (t : List ℕ) → U64 w → read_store w ≡ Ok m → tidy_machine m ≡ true → store_text w ≡ Ok t → length w₂ ≡ length w → ComesBack t w₂

@@ -1,6 +1,7 @@
 -- A tree's value at the records where a pass stands, and the turn that it gives. Assumes nothing.
-use Prim.Native.Nat.{ℕ, ◌-◌, ◌≤◌, ◌<◌}
-use mathlib.Core.Path.{◌≡◌, refl, sym, ap, ◌∙◌}
+use Rattle.std.specs.Prelude.{Ok}
+use Prim.Native.Nat.{ℕ, ◌≤◌, ◌<◌}
+use mathlib.Core.Path.{◌≡◌, sym, ap, ◌∙◌}
 use mathlib.Core.List.{List}
 use native.Mathlib.Omega.{arith}
 use Rattle.machine.specs.Query.{Place, Names, read_tree, tree_value, term_value}
@@ -12,7 +13,6 @@ use Rattle.laws.specs.Trees.{tree-grows}
 use Rattle.laws.specs.Windows.{term-grows}
 use Rattle.terms.specs.Levels.{place_at, term_value_at}
 use Rattle.search.specs.Nodes.{checked, topmost_from}
-use Rattle.search.specs.declared.CheckedTree.TheVariants.{Good}
 use Rattle.search.proofs.Topmost.{below-topmost}
 use Rattle.descent.specs.Descent.{value_by, Settled, Turned}
 use Rattle.descent.proofs.Sites.{entered_at, known-above}
@@ -41,16 +41,8 @@ module _ (w t : List ℕ) (low : ℕ) (residues atoms : List ℕ) where
     pub turn-settled : (s : ℕ) → Settled (by at) s k → s < k → Turned (by at) k (record { live = k; settled = s })
     turn-settled s i b = record { live = rw (stays at s k (omega arith) (i b)); settled = λ z. i b }
 
-    module _ (v : Tri) (e : v ≡ by at k) where
-      pub turn-false : v ≡ False → Turned (by at) k (record { live = k - 1; settled = 5 })
-      turn-false f = record { live = rw (sym e ∙ f); settled = λ z. absurd (omega arith) }
-
-      pub turn-true : v ≡ True → Turned (by at) k (record { live = k; settled = k })
-      turn-true f = record { live = rw (sym e ∙ f); settled = λ z. sym e ∙ f }
-
-      pub turn-undecided : v ≡ Undecided → Turned (by at) k (record { live = k; settled = 5 })
-      turn-undecided f = record { live = rw (sym e ∙ f); settled = λ z. absurd (omega arith) }
-
     -- no kind that is known is one that the tree asks for
-    pub turn-quiet : (topmost : ℕ) → checked (read_tree t) ≡ Good → topmost ≡ topmost_from 5 t → k < topmost → Turned (by at) k (record { live = k; settled = 5 })
-    turn-quiet topmost good e h = turn-undecided Undecided (below-topmost w at low k residues atoms t good (rw (← e) h)) refl
+    pub turn-quiet : (topmost : ℕ) → checked (read_tree t) ≡ Ok tt → topmost ≡ topmost_from 5 t → k < topmost → Turned (by at) k (record { live = k; settled = 5 })
+    turn-quiet topmost good e h =
+        let u = below-topmost w at low k residues atoms t good (rw (← e) h) in
+        record { live = rw (← u); settled = λ z. absurd (omega arith) }

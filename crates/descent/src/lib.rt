@@ -2,12 +2,11 @@
 // below a record needs a look. Nothing is looked at below one where the tree is false, and nothing is evaluated below one where it is true.
 #![tactic(auto)]
 
-ghost use Rattle.std.specs.Prelude.{◌≡◌, ◌-◌, ◌≤◌, set};
+ghost use Rattle.std.specs.Prelude.{◌≡◌, ◌-◌, ◌≤◌, set, Ok};
 ghost use Rattle.machine.specs.Query.{read_tree};
 ghost use Rattle.seek.specs.Seek.{five_numbers};
 ghost use Rattle.terms.specs.Levels.{Inside};
 ghost use Rattle.search.specs.Nodes.{checked, topmost_from};
-ghost use Rattle.search.specs.declared.CheckedTree.TheVariants.{Good};
 ghost use Rattle.descent.specs.Descent.{five, value_by, Settled, Turned};
 
 use machine::{Record, RecordNumbers, Tri};
@@ -56,7 +55,7 @@ pub fn turn(
     residues: &[u64],
     atoms: &[u64],
 ) -> State
-    requires { (checked (read_tree tree.now) ≡ Good) × Inside store.now (five_numbers at.now) × (1 ≤ kind)
+    requires { (checked (read_tree tree.now) ≡ Ok tt) × Inside store.now (five_numbers at.now) × (1 ≤ kind)
         × Settled (value_by store.now tree.now low residues.now atoms.now (five_numbers at.now)) settled kind × (topmost ≡ topmost_from 5 tree.now) }
     ensures { Turned
         (value_by store.now tree.now low residues.now atoms.now (five_numbers at.now)) kind result }

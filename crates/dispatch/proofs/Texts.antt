@@ -1,9 +1,9 @@
 -- A call's words: its numbers spelled out, its parts, and its texts as bytes. Assumes nothing.
+use Rattle.std.specs.Prelude.{None, Option, Some}
 use Prim.Native.Nat.{ℕ, zero, suc, ◌+◌, ◌-◌, ◌%◌, ◌≤◌, ◌<◌}
 use mathlib.Core.Path.{◌≡◌, refl, sym, ap, ◌∙◌}
 use mathlib.Core.Bool.{true}
 use mathlib.Core.List.{List, [], ◌∷◌, ◌++◌, map}
-use mathlib.Core.Option.{Option, none, some}
 use native.Mathlib.Nat.{add-zero}
 use native.Mathlib.Numerals.{add-one}
 use native.Mathlib.Omega.{arith}
@@ -56,10 +56,10 @@ pub record PartAt (trees k : ℕ) (ws : List ℕ) (at e : ℕ) (ps : List (List 
   pub fits : e ≤ length ws
   pub good : good_part trees k (text_at ws at) ≡ true
   pub later : List (List ℕ)
-  pub rest : read_parts trees k (drop e ws) ≡ some later
+  pub rest : read_parts trees k (drop e ws) ≡ Some later
   pub is : ps ≡ text_at ws at ∷ later
 
-pub part_at : (trees k : ℕ) (ws : List ℕ) (at e : ℕ) (ps : List (List ℕ)) → at ≤ length ws → e ≡ part_end ws at → read_parts trees (suc k) (drop at ws) ≡ some ps
+pub part_at : (trees k : ℕ) (ws : List ℕ) (at e : ℕ) (ps : List (List ℕ)) → at ≤ length ws → e ≡ part_end ws at → read_parts trees (suc k) (drop at ws) ≡ Some ps
     → PartAt trees k ws at e ps
 part_at trees k ws at e ps h q r =
     let p = parts-step trees k (drop at ws) ps r in
@@ -77,7 +77,7 @@ part_at trees k ws at e ps h q r =
     }
 
 -- no part more: the words are at their end
-pub no-parts : (trees : ℕ) (ws : List ℕ) (at : ℕ) (ps : List (List ℕ)) → at ≤ length ws → read_parts trees 0 (drop at ws) ≡ some ps → at ≡ length ws
+pub no-parts : (trees : ℕ) (ws : List ℕ) (at : ℕ) (ps : List (List ℕ)) → at ≤ length ws → read_parts trees 0 (drop at ws) ≡ Some ps → at ≡ length ws
 no-parts trees ws at ps h e =
     let p = parts_none trees (drop at ws) ps e in
     let l : length (drop at ws) ≡ 0 = rw p.words in
@@ -118,12 +118,12 @@ pub record Read (code : ℕ) (ws : List ℕ) : Type 0 where
   pub high : code ≤ length rows
   pub room : numbers_in code ≤ length ws
   pub parts : List (List ℕ)
-  pub reads : read_parts (trees_in code) (parts_in code) (drop (numbers_in code) ws) ≡ some parts
-  pub is : read_call code ws ≡ some (call_of (spell 0 (numbers_in code) ws) parts code)
+  pub reads : read_parts (trees_in code) (parts_in code) (drop (numbers_in code) ws) ≡ Some parts
+  pub is : read_call code ws ≡ Some (call_of (spell 0 (numbers_in code) ws) parts code)
 
-pub some_of : {A : Type 0} (o : Option A) → is_some o ≡ true → (x : A) × (o ≡ some x)
-some_of none h = let z : ◌≡◌ {A = ℕ} 0 1 = cc in absurd (omega arith)
-some_of (some x) h = (x, refl)
+pub some_of : {A : Type 0} (o : Option A) → is_some o ≡ true → (x : A) × (o ≡ Some x)
+some_of None h = let z : ◌≡◌ {A = ℕ} 0 1 = cc in absurd (omega arith)
+some_of (Some x) h = (x, refl)
 
 pub read : (code : ℕ) (ws : List ℕ) → is_some (read_call code ws) ≡ true → Read code ws
 read code ws h =
@@ -135,5 +135,5 @@ read code ws h =
       room = p.room;
       parts = p.parts;
       reads = p.reads;
-      is = s.1 ∙ ap some (p.is ∙ ap (λ (l : List ℕ). call_of l p.parts code) (spelled 0 (numbers_in code) ws (omega arith)));
+      is = s.1 ∙ ap Some (p.is ∙ ap (λ (l : List ℕ). call_of l p.parts code) (spelled 0 (numbers_in code) ws (omega arith)));
     }

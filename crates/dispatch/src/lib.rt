@@ -1,8 +1,7 @@
 // One call of a list of edits: its words are decoded, and its core is run. The store is known to be good, and the words to be a call.
 #![tactic(auto)]
 
-ghost use Rattle.std.specs.Prelude.{◌≡◌, true, ◌+◌, ◌≤◌, length};
-ghost use Rattle.std.proofs.Math.Option.{some, map};
+ghost use Rattle.std.specs.Prelude.{◌≡◌, true, ◌+◌, ◌≤◌, length, Some, option_map};
 ghost use Rattle.machine.specs.Lists.{is_some};
 ghost use Rattle.machine.specs.Answer.{edited_numbers};
 ghost use Rattle.machine.specs.Edit.{store_step};
@@ -13,7 +12,7 @@ ghost use Rattle.dispatch.specs.Words.{part_end, Narrowed, values_in};
 
 use additions::Added;
 use insertion::Cursor;
-use machine::{Edited, NewAtom};
+use machine::{Edited, NewAtom, Refusal};
 
 // ---- calls with texts, a byte to a word
 
@@ -22,10 +21,8 @@ pub fn narrow(words: &[u64], bytes: &mut [u8])
     requires { length words.now ≤ length bytes.old }
     ensures { Narrowed words.now bytes.new }
 {
-    let mut i: usize = 0;
-    while i < words.len() {
-        bytes[i] = (words[i] % 256) as u8;
-        i += 1;
+    for (i, word) in words.iter().enumerate() {
+        bytes[i] = (*word % 256) as u8;
     }
 }
 
@@ -62,7 +59,7 @@ pub fn add_atom(store: &mut [u64], cursor: Cursor, words: &[u64], bytes: &[u8]) 
     requires reads_call { is_some (read_call 2 words.now) ≡ true }
     requires narrowed { Narrowed words.now bytes.now }
     ensures cursor_valid { Valid result.cursor store.new }
-    ensures store_after { some (edited_numbers result.edited, store.new) ≡ map (store_step store.old) (read_call 2 words.now) }
+    ensures store_after { Some (edited_numbers result.edited, store.new) ≡ option_map (store_step store.old) (read_call 2 words.now) }
 {
     let chain = part_end(words, 13);
     let code = part_end(words, chain);
@@ -83,21 +80,21 @@ pub fn add_atom(store: &mut [u64], cursor: Cursor, words: &[u64], bytes: &[u8]) 
     additions::add_prepared(store, cursor, words[0], prepared)
 }
 
-fn remove_chain_by_id(store: &mut [u64], words: &[u64], bytes: &[u8]) -> Edited
+fn remove_chain_by_id(store: &mut [u64], words: &[u64], bytes: &[u8]) -> Result<Edited, Refusal>
     requires good { Good store.old }
     requires reads_call { is_some (read_call 7 words.now) ≡ true }
     requires narrowed { Narrowed words.now bytes.now }
-    ensures { some (edited_numbers result, store.new) ≡ map (store_step store.old) (read_call 7 words.now) }
+    ensures { Some (edited_numbers result, store.new) ≡ option_map (store_step store.old) (read_call 7 words.now) }
 {
     let id = part_end(words, 1);
     removals::remove_chain_by_id(store, words[0], &bytes[2..id])
 }
 
-fn remove_residue_by_id(store: &mut [u64], words: &[u64], bytes: &[u8]) -> Edited
+fn remove_residue_by_id(store: &mut [u64], words: &[u64], bytes: &[u8]) -> Result<Edited, Refusal>
     requires good { Good store.old }
     requires reads_call { is_some (read_call 8 words.now) ≡ true }
     requires narrowed { Narrowed words.now bytes.now }
-    ensures { some (edited_numbers result, store.new) ≡ map (store_step store.old) (read_call 8 words.now) }
+    ensures { Some (edited_numbers result, store.new) ≡ option_map (store_step store.old) (read_call 8 words.now) }
 {
     let code = part_end(words, 4);
     removals::remove_residue_by_id(
@@ -110,11 +107,11 @@ fn remove_residue_by_id(store: &mut [u64], words: &[u64], bytes: &[u8]) -> Edite
     )
 }
 
-fn remove_conformer_by_id(store: &mut [u64], words: &[u64], bytes: &[u8]) -> Edited
+fn remove_conformer_by_id(store: &mut [u64], words: &[u64], bytes: &[u8]) -> Result<Edited, Refusal>
     requires good { Good store.old }
     requires reads_call { is_some (read_call 9 words.now) ≡ true }
     requires narrowed { Narrowed words.now bytes.now }
-    ensures { some (edited_numbers result, store.new) ≡ map (store_step store.old) (read_call 9 words.now) }
+    ensures { Some (edited_numbers result, store.new) ≡ option_map (store_step store.old) (read_call 9 words.now) }
 {
     let name = part_end(words, 4);
     let location = part_end(words, name);
@@ -131,54 +128,54 @@ fn remove_conformer_by_id(store: &mut [u64], words: &[u64], bytes: &[u8]) -> Edi
 
 // ---- calls of numbers, and of a tree
 
-fn add_model(store: &mut [u64], words: &[u64]) -> Edited
+fn add_model(store: &mut [u64], words: &[u64]) -> Result<Edited, Refusal>
     requires good { Good store.old }
     requires reads_call { is_some (read_call 1 words.now) ≡ true }
-    ensures { some (edited_numbers result, store.new) ≡ map (store_step store.old) (read_call 1 words.now) }
+    ensures { Some (edited_numbers result, store.new) ≡ option_map (store_step store.old) (read_call 1 words.now) }
 {
     additions::add_model(store, words[0])
 }
 
 // The words of a removal by position are the position.
-fn remove_at(store: &mut [u64], code: u64, words: &[u64]) -> Edited
+fn remove_at(store: &mut [u64], code: u64, words: &[u64]) -> Result<Edited, Refusal>
     requires good { Good store.old }
     requires reads_call { is_some (read_call code words.now) ≡ true }
     requires code_range { (3 ≤ code) × (code ≤ 6) }
-    ensures { some (edited_numbers result, store.new) ≡ map (store_step store.old) (read_call code words.now) }
+    ensures { Some (edited_numbers result, store.new) ≡ option_map (store_step store.old) (read_call code words.now) }
 {
     removals::remove_at(store, words)
 }
 
-fn remove_atom_by_serial_number(store: &mut [u64], words: &[u64]) -> Edited
+fn remove_atom_by_serial_number(store: &mut [u64], words: &[u64]) -> Result<Edited, Refusal>
     requires good { Good store.old }
     requires reads_call { is_some (read_call 10 words.now) ≡ true }
-    ensures { some (edited_numbers result, store.new) ≡ map (store_step store.old) (read_call 10 words.now) }
+    ensures { Some (edited_numbers result, store.new) ≡ option_map (store_step store.old) (read_call 10 words.now) }
 {
     removals::remove_atom_by_serial_number(store, words[0], words[1], words[2], words[3], words[4])
 }
 
-fn remove_atoms_by(store: &mut [u64], words: &[u64]) -> Edited
+fn remove_atoms_by(store: &mut [u64], words: &[u64]) -> Result<Edited, Refusal>
     requires good { Good store.old }
     requires reads_call { is_some (read_call 11 words.now) ≡ true }
-    ensures { some (edited_numbers result, store.new) ≡ map (store_step store.old) (read_call 11 words.now) }
+    ensures { Some (edited_numbers result, store.new) ≡ option_map (store_step store.old) (read_call 11 words.now) }
 {
     tree_removals::remove_atoms_by(store, words[0], &words[2..])
 }
 
-fn remove_empty(store: &mut [u64], words: &[u64]) -> Edited
+fn remove_empty(store: &mut [u64], words: &[u64]) -> Result<Edited, Refusal>
     requires good { Good store.old }
     requires reads_call { is_some (read_call 12 words.now) ≡ true }
-    ensures { some (edited_numbers result, store.new) ≡ map (store_step store.old) (read_call 12 words.now) }
+    ensures { Some (edited_numbers result, store.new) ≡ option_map (store_step store.old) (read_call 12 words.now) }
 {
     empty_removals::remove_empty(store, words[0])
 }
 
 // The words of a join are two positions, as long.
-fn join(store: &mut [u64], code: u64, words: &[u64]) -> Edited
+fn join(store: &mut [u64], code: u64, words: &[u64]) -> Result<Edited, Refusal>
     requires good { Good store.old }
     requires reads_call { is_some (read_call code words.now) ≡ true }
     requires code_range { (13 ≤ code) × (code ≤ 16) }
-    ensures { some (edited_numbers result, store.new) ≡ map (store_step store.old) (read_call code words.now) }
+    ensures { Some (edited_numbers result, store.new) ≡ option_map (store_step store.old) (read_call code words.now) }
 {
     let end = words.len();
     let half = end / 2;
@@ -186,10 +183,10 @@ fn join(store: &mut [u64], code: u64, words: &[u64]) -> Edited
 }
 
 // The words are an atom's position, then the element.
-fn set_element(store: &mut [u64], words: &[u64]) -> Edited
+fn set_element(store: &mut [u64], words: &[u64]) -> Result<Edited, Refusal>
     requires good { Good store.old }
     requires reads_call { is_some (read_call 17 words.now) ≡ true }
-    ensures { some (edited_numbers result, store.new) ≡ map (store_step store.old) (read_call 17 words.now) }
+    ensures { Some (edited_numbers result, store.new) ≡ option_map (store_step store.old) (read_call 17 words.now) }
 {
     settings::set_element(store, &words[0..5], words[5])
 }
@@ -197,12 +194,17 @@ fn set_element(store: &mut [u64], words: &[u64]) -> Edited
 // ---- one call
 
 // By the code, which is not that of `AddAtom`; the last arm has the joins, 13 to 16.
-pub fn run_call(store: &mut [u64], code: u64, words: &[u64], bytes: &[u8]) -> Edited
+pub fn run_call(
+    store: &mut [u64],
+    code: u64,
+    words: &[u64],
+    bytes: &[u8],
+) -> Result<Edited, Refusal>
     requires good { Good store.old }
     requires no_addition { code ≡ 2 → ⊥ }
     requires reads_call { is_some (read_call code words.now) ≡ true }
     requires narrowed { Narrowed words.now bytes.now }
-    ensures { some (edited_numbers result, store.new) ≡ map (store_step store.old) (read_call code words.now) }
+    ensures { Some (edited_numbers result, store.new) ≡ option_map (store_step store.old) (read_call code words.now) }
 {
     match code {
         1 => add_model(store, words),

@@ -1,12 +1,10 @@
 -- A list of edits applied to a store as one call. Assumes nothing.
-use Rattle.std.specs.Prelude.{ℕ, ◌*◌, cond, List, [], ◌++◌, length, drop, leb}
-use Rattle.std.proofs.Math.Option.{Option, none, some}
+use Rattle.std.specs.Prelude.{ℕ, ◌*◌, cond, List, [], ◌++◌, length, drop, leb, Err, None, Ok, Option, Some}
 use Rattle.machine.specs.Lists.{concat_map}
-use Rattle.machine.specs.Answer.{Result, ok, refused, applied_numbers}
+use Rattle.machine.specs.Answer.{Result, counted_numbers}
 use Rattle.machine.specs.Store.{Machine, read_store}
 use Rattle.machine.specs.Edit.{Call, store_after, store_answers}
 use Rattle.calls.specs.Format.{read_calls}
-use Rattle.machine.specs.declared.Applied.TheVariants.{Done, Refused}
 use Rattle.machine.specs.declared.Refusal.TheVariants.{BadList, ShortAnswers}
 
 -- the answer's numbers, the store's words and the output's words afterwards
@@ -27,15 +25,15 @@ abbrev pub applied : List ℕ → List ℕ → List Call → List ℕ × List �
 applied w out cs = (store_after w cs, answered (store_answers w cs) out)
 
 abbrev pub run_calls : List ℕ → List ℕ → Option (List Call) → Run
-run_calls w out none = ran (applied_numbers (Refused BadList)) w out
-run_calls w out (some cs) =
+run_calls w out None = ran (counted_numbers (Err BadList)) w out
+run_calls w out (Some cs) =
     cond (leb (3 * length cs) (length out))
-    (ran (applied_numbers (Done (length cs))) (applied w out cs).0 (applied w out cs).1)
-    (ran (applied_numbers (Refused ShortAnswers)) w out)
+    (ran (counted_numbers (Ok (length cs))) (applied w out cs).0 (applied w out cs).1)
+    (ran (counted_numbers (Err ShortAnswers)) w out)
 
 abbrev pub run_read : List ℕ → List ℕ → List ℕ → Result Machine → Run
-run_read w list out (refused r) = ran (applied_numbers (Refused r)) w out
-run_read w list out (ok m) = run_calls w out (read_calls list)
+run_read w list out (Err r) = ran (counted_numbers (Err r)) w out
+run_read w list out (Ok m) = run_calls w out (read_calls list)
 
 -- 1 and 2 by the store, then the list, then the output; a refusal changes nothing
 unfoldable pub apply_run : List ℕ → List ℕ → List ℕ → Run
@@ -45,5 +43,5 @@ apply_run w list out = run_read w list out (read_store w)
 
 -- the calls of a list that is well formed
 abbrev pub calls_of : Option (List Call) → List Call
-calls_of none = []
-calls_of (some cs) = cs
+calls_of None = []
+calls_of (Some cs) = cs

@@ -2,10 +2,9 @@
 // insertion point, so a list in file order does not rescan the model.
 #![tactic(auto)]
 
-ghost use Rattle.std.specs.Prelude.{◌≡◌, true, ◌+◌, ◌*◌, ◌≤◌, length};
-ghost use Rattle.std.proofs.Math.Option.{some, map};
+ghost use Rattle.std.specs.Prelude.{◌≡◌, true, ◌+◌, ◌*◌, ◌≤◌, length, Some, option_map};
 ghost use Rattle.machine.specs.Lists.{is_some};
-ghost use Rattle.machine.specs.Answer.{edited_numbers, applied_numbers};
+ghost use Rattle.machine.specs.Answer.{edited_numbers, counted_numbers};
 ghost use Rattle.machine.specs.Edit.{store_step};
 ghost use Rattle.moves.specs.Over.{over};
 ghost use Rattle.seek.specs.Seek.{Good};
@@ -14,10 +13,8 @@ ghost use Rattle.calls.specs.Format.{read_call, read_calls};
 ghost use Rattle.edits.specs.Apply.{calls_of, applied, ran, run_calls, apply_run};
 
 use additions::Added;
-use calls::Counted;
 use insertion::Cursor;
-use machine::{Applied, Edited, Refusal};
-use store::Checked;
+use machine::{EditAnswer, Edited, Refusal};
 
 // ---- one call
 
@@ -34,7 +31,7 @@ fn apply_call(
     requires reads_call { is_some (read_call code words.now) ≡ true }
     requires bytes_room { length words.now ≤ length bytes.old }
     ensures cursor_valid { Valid result.cursor store.new }
-    ensures store_after { some (edited_numbers result.edited, store.new) ≡ map (store_step store.old) (read_call code words.now) }
+    ensures store_after { Some (edited_numbers result.edited, store.new) ≡ option_map (store_step store.old) (read_call code words.now) }
 {
     dispatch::narrow(words, bytes);
     if code == 2 {
@@ -50,11 +47,11 @@ fn apply_call(
 
 // ---- the list
 
-fn put_answer(out: &mut [u64], at: usize, edited: Edited)
+fn put_answer(out: &mut [u64], at: usize, edited: Result<Edited, Refusal>)
     requires { at + 3 ≤ length out.old }
     ensures { out.new ≡ over at (edited_numbers edited) out.old }
 {
-    let edit = answers::of_edited(edited);
+    let edit = EditAnswer::from(edited);
     let words = [edit.result, edit.found, edit.removed];
     moves::write_over(out, at, &words);
 }
@@ -84,33 +81,25 @@ fn apply_all(store: &mut [u64], list: &[u64], out: &mut [u64])
 }
 
 // On a store that was checked.
-fn apply_good(store: &mut [u64], list: &[u64], out: &mut [u64]) -> Applied
+fn apply_good(store: &mut [u64], list: &[u64], out: &mut [u64]) -> Result<u64, Refusal>
     requires { Good store.old }
-    ensures { ran (applied_numbers result) store.new out.new
+    ensures { ran (counted_numbers result) store.new out.new
         ≡ run_calls store.old out.old (read_calls list.now) }
 {
-    let counted = calls::count_calls(list);
-    match counted {
-        Counted::Bad => Applied::Refused(Refusal::BadList),
-        Counted::Calls(calls) => {
-            let room = (out.len() / 3) as u64;
-            if room < calls {
-                return Applied::Refused(Refusal::ShortAnswers);
-            }
-            apply_all(store, list, out);
-            Applied::Done(calls)
-        }
+    let calls = calls::count_calls(list).ok_or(Refusal::BadList)?;
+    let room = (out.len() / 3) as u64;
+    if room < calls {
+        return Err(Refusal::ShortAnswers);
     }
+    apply_all(store, list, out);
+    Ok(calls)
 }
 
 // A refused call changes nothing, and the list goes on. A store, a list or an output that is refused changes nothing at all.
-pub fn apply(store: &mut [u64], list: &[u64], out: &mut [u64]) -> Applied
-    ensures { record { numbers = applied_numbers result; store = store.new; out = out.new }
+pub fn apply(store: &mut [u64], list: &[u64], out: &mut [u64]) -> Result<u64, Refusal>
+    ensures { record { numbers = counted_numbers result; store = store.new; out = out.new }
         ≡ apply_run store.old list.now out.old }
 {
-    let checked = store::check(store);
-    match checked {
-        Checked::Refused(refusal) => Applied::Refused(refusal),
-        Checked::Good(_atoms) => apply_good(store, list, out),
-    }
+    store::check(store)?;
+    apply_good(store, list, out)
 }

@@ -9,12 +9,6 @@ pub struct Element {
     pub number: u64,
 }
 
-#[derive(Clone, Copy)]
-pub enum MaybeElement {
-    Is(Element),
-    NotOne,
-}
-
 impl Element {
     // H
     pub const FIRST: u64 = 1;
@@ -23,13 +17,14 @@ impl Element {
     pub const LAST: u64 = 118;
 
     // "elements 1..118", as a tree's parameter is, and an element that is set
-    pub fn from_number(n: u64) -> MaybeElement
+    pub fn from_number(n: u64) -> Option<Element>
         ensures { result ≡ element_of n }
     {
         if (Self::FIRST <= n) & (n <= Self::LAST) {
-            return MaybeElement::Is(Element { number: n });
+            Some(Element { number: n })
+        } else {
+            None
         }
-        MaybeElement::NotOne
     }
 
     // "element 1..118 or 0 missing", as an atom's word is

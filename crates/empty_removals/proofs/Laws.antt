@@ -1,11 +1,12 @@
 -- What each place of the code has to show, over words and records. Assumes nothing.
+use Rattle.std.specs.Prelude.{Err, None, Ok, Option, Some}
 use Prim.Native.Nat.{ℕ, ◌+◌, ◌-◌, ◌*◌, ◌/◌, ◌≤◌, ◌<◌}
 use mathlib.Core.Path.{◌≡◌, refl, sym, ap, ◌∙◌}
 use mathlib.Core.Bool.{Bool, true, false}
 use mathlib.Core.List.{List, [], ◌∷◌, ◌++◌}
 use native.Mathlib.Omega.{arith}
 use lib.ListN.{length, take, drop, get_or, set, length-append, length-drop, take-append-drop}
-use lib.Seq.{drop_at, drop-drop, length-take-le}
+use lib.Seq.{drop_at, length-take-le}
 use lib.Dec.{ltb}
 use borrow.Author.Tests.{eq-eqb, ne_eqb}
 use Rattle.machine.specs.Lists.{keep}
@@ -13,17 +14,15 @@ use Rattle.machine.specs.Answer.{edited_numbers}
 use Rattle.machine.specs.Record.{Words}
 use Rattle.machine.specs.Store.{stored, laid, lay_out, records_of}
 use Rattle.machine.specs.Edit.{with_children, non_empty, remove_empty, step_by}
-use Rattle.machine.specs.declared.Edited as Edited
 use Rattle.machine.specs.declared.Refusal.TheVariants.{NoPosition}
 use Rattle.laws.specs.Lists.{All}
 use Rattle.laws.specs.Grouped.{concat, concat-length, chunks-length}
-use Rattle.moves.specs.Over.{over, part, taken_out, Twelve}
-use Rattle.moves.proofs.Laws.{over_none, over-length, over-under, take-over, part-below}
+use Rattle.moves.specs.Over.{over, taken_out, Twelve}
+use Rattle.moves.proofs.Laws.{over_none, over-length, over-under, take-over, between-below}
 use Rattle.moves.proofs.Records.{remove-laid}
-use Rattle.seek.specs.Seek.{held, Good, Within, record_at, records_in, span, span_of}
+use Rattle.seek.specs.Seek.{held, Good, Within, record_at, records_in, span}
 use Rattle.seek.proofs.Below.{record-kind, records_in-cons, records_in-nil}
-use Rattle.seek.proofs.Laws.{Stands, found, missing}
-use Rattle.seek.specs.declared.Span as Span
+use Rattle.seek.proofs.Laws.{Stands, stands, missing}
 use Rattle.empty_removals.specs.Prune.{Laid, stays, full, Gathered}
 use Rattle.empty_removals.proofs.Branches.{full-chains, non_empty-atoms}
 use Rattle.empty_removals.proofs.Words.{instead, good-laid, records_in-twelve, records_in-over, Rewritten, rewritten, below-within, below-high, below-records, below-laid, below-stored}
@@ -61,15 +60,6 @@ module _ (w : List ℕ) (at to end : ℕ) where
 
   pub stays-below : (get_or w (at * 12) 0 ≡ 5 → ⊥) → (to ≡ end → ⊥) → to ≤ end → ltb (get_or w (at * 12) 0) (get_or w (to * 12) 0) ≡ stays (record_at at w) (records_in to end w)
   stays-below n e l = rw (record-kind w at, ne_eqb (get_or w (at * 12) 0) 5 n, records_in-cons w end to (omega arith), record-kind w to)
-
--- ---- `lift`
-
-pub lift-none : (s : List ℕ) (from to : ℕ) → from ≤ to → to ≤ from → to + 12 ≤ length s → s ≡ over to (take 12 (drop from s)) s
-unfolding over
-lift-none s from to l h b =
-    let e : from ≡ to = omega arith in
-    let n : length (take 12 (drop to s)) ≡ 12 = length-take-le 12 (drop to s) (rw length-drop (omega arith)) in
-    rw (e, n, ← drop-drop 12 to s, take-append-drop 12 (drop to s), take-append-drop to s)
 
 -- ---- `gather`
 
@@ -123,13 +113,12 @@ module _ (from end : ℕ) (w : List ℕ) (at to : ℕ) (s : List ℕ) (h : Withi
   module _ (l : from < at) where
     -- the next record is still as it was
     unmoved : record_at (at - 1) s ≡ record_at (at - 1) w
-    unfolding part
     unmoved =
         let o = i.done.low in
         let n = i.done.count in
         let r = h.room in
         let e : (at - 1) * 12 + 12 - (at - 1) * 12 ≡ 12 = omega arith in
-        let p = part-below (to * 12) (concat (full (records_in at end w))) w ((at - 1) * 12) ((at - 1) * 12 + 12) (omega arith) (omega arith) (omega arith) in
+        let p = between-below (to * 12) (concat (full (records_in at end w))) w ((at - 1) * 12) ((at - 1) * 12 + 12) (omega arith) (omega arith) (omega arith) in
         ap (record_at (at - 1)) i.done.is ∙ (rw e at p)
 
     next : (b : Bool) → b ≡ stays (record_at (at - 1) s) (records_in to end s)
@@ -187,14 +176,14 @@ pub record Gap (first : ℕ) (s : List ℕ) : Type 0 where
   pub laid : Laid s
   pub high : first ≤ length (records_of s)
 
-module _ (w : List ℕ) (i : ℕ) (g : Good w) (r : Span.Span) (e : r ≡ span_of (span (i ∷ []) (held w))) where
-  pub empty-missing : r ≡ Span.TheVariants.Missing → (edited_numbers (Edited.TheVariants.Refused NoPosition), w) ≡ step_by w (remove_empty i)
+module _ (w : List ℕ) (i : ℕ) (g : Good w) (r : Option (ℕ × ℕ)) (e : r ≡ span (i ∷ []) (held w)) where
+  pub empty-missing : r ≡ None → (edited_numbers (Err NoPosition), w) ≡ step_by w (remove_empty i)
   unfolding step_by remove_empty
   empty-missing f = let b = missing 0 4 (i ∷ []) 0 (held w) (sym e ∙ f) in rw (g, b)
 
-  module _ (start stop : ℕ) (f : r ≡ Span.TheVariants.At start stop) where
+  module _ (start stop : ℕ) (f : r ≡ Some (start, stop)) where
     there : Stands 0 4 (i ∷ []) 0 (held w) start stop
-    there = found 0 4 (i ∷ []) 0 (held w) start stop (sym e ∙ f)
+    there = stands 0 4 (i ∷ []) 0 (held w) start stop (sym e ∙ f)
 
     -- the records below the model's own
     pub model-within : Within (start + 1) stop w
@@ -236,6 +225,6 @@ module _ (w : List ℕ) (i : ℕ) (g : Good w) (r : Span.Span) (e : r ≡ span_o
             let us = there.branch.1 in
             omega (arith, below-stored i start stop (held w) there (non_empty 3 us), non_empty-atoms 3 us)
 
-        pub empty-done : (edited_numbers (Edited.TheVariants.Done 1 0), v) ≡ step_by w (remove_empty i)
+        pub empty-done : (edited_numbers (Ok (record { found = 1; removed = 0 })), v) ≡ step_by w (remove_empty i)
         unfolding step_by remove_empty
         empty-done = let n = none-removed in let a = after in rw (g, there.there, n, a)

@@ -1,17 +1,15 @@
 // What goes out of a model: its branches without atoms, and records that a compaction leaves out.
 #![tactic(auto)]
 
-ghost use Rattle.std.specs.Prelude.{◌≡◌, ◌++◌, ◌+◌, ◌≤◌, ◌<◌, length, take, drop};
+ghost use Rattle.std.specs.Prelude.{◌≡◌, ◌++◌, ◌≤◌, ◌<◌, length, take, drop};
 ghost use Rattle.machine.specs.Answer.{edited_numbers};
 ghost use Rattle.machine.specs.Store.{laid, records_of};
 ghost use Rattle.machine.specs.Edit.{remove_empty, step_by};
 ghost use Rattle.laws.specs.Grouped.{concat};
-ghost use Rattle.moves.specs.Over.{over};
 ghost use Rattle.seek.specs.Seek.{Good, Within, record_at, records_in};
 ghost use Rattle.empty_removals.specs.Prune.{Laid, stays, Gathered};
 
 use machine::{Edited, Record, Refusal};
-use seek::Span;
 
 // The records from `to` up to `end` go: those after them move down, zeros fill what that leaves, and the trailer follows.
 pub fn close_gap(store: &mut [u64], to: usize, end: usize)
@@ -49,47 +47,34 @@ fn stays(store: &[u64], at: usize, to: usize, end: usize) -> bool
     kind < store[to * Record::WIDTH]
 }
 
-// One record of 12 words goes up, unless it stands there already.
-fn lift(store: &mut [u64], from: usize, to: usize)
-    requires { (from ≤ to) × (to + 12 ≤ length store.old) }
-    ensures { store.new ≡ over to (take 12 (drop from store.old)) store.old }
-{
-    if from < to {
-        moves::move_up(store, from, to, Record::WIDTH);
-    }
-}
-
 // Of the records from `from` up to `end` those that stay move up, so that they end at `end`. The answer is where they start.
 // From the last to the first: a record comes after all that could keep it, so one pass serves the three levels.
 fn gather(store: &mut [u64], from: usize, end: usize) -> usize
     requires { Within from end store.old }
     ensures { Gathered from end store.old result store.new }
 {
-    let mut at: usize = end;
-    let mut to: usize = end;
-    while from < at {
-        if stays(store, at - 1, to, end) {
-            lift(store, (at - 1) * Record::WIDTH, (to - 1) * Record::WIDTH);
+    let mut to = end;
+    for at in (from..end).rev() {
+        if stays(store, at, to, end) {
             to -= 1;
-            at -= 1;
-        } else {
-            at -= 1;
+            moves::move_record(store, at * Record::WIDTH, to * Record::WIDTH);
         }
     }
     to
 }
 
 // Conformers without atoms go, then residues without conformers, then chains without residues, of a model. No atom does.
-pub fn remove_empty(store: &mut [u64], model: u64) -> Edited
+pub fn remove_empty(store: &mut [u64], model: u64) -> Result<Edited, Refusal>
     requires { Good store.old }
     ensures { (edited_numbers result, store.new) ≡ step_by store.old (remove_empty model) }
 {
     let position = [model];
-    let Span::At(start, end) = seek::locate(store, &position) else {
-        return Edited::Refused(Refusal::NoPosition);
-    };
+    let (start, end) = seek::locate(store, &position)?;
     let below = start + 1;
     let first = gather(store, below, end);
     close_gap(store, below, first);
-    Edited::Done(1, 0)
+    Ok(Edited {
+        found: 1,
+        removed: 0,
+    })
 }

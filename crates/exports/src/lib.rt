@@ -16,8 +16,7 @@ ghost use Rattle.copies.specs.Copy.{copy_run};
 ghost use Rattle.edits.specs.Apply.{ran, apply_run};
 ghost use Rattle.exports.specs.Version.{version};
 
-use machine::{ApplyAnswer, EditAnswer, FindAnswer, LookupAnswer, NewAtom, WriteAnswer};
-use store::Checked;
+use machine::{ApplyAnswer, EditAnswer, FindAnswer, LookupAnswer, NewAtom, WriteAnswer, number_of};
 
 // 0.10.0: the millions are the major number, the thousands the minor one.
 #[unsafe(no_mangle)]
@@ -32,35 +31,28 @@ pub extern "C" fn jubrelti_version() -> u64
 pub extern "C" fn jubrelti_check(store: &[u64]) -> u64
     ensures { result ≡ result_number (read_store store.now) }
 {
-    let checked = store::check(store);
-    match checked {
-        Checked::Good(_atoms) => 0,
-        Checked::Refused(refusal) => answers::refusal_number(refusal),
-    }
+    number_of(store::check(store))
 }
 
 #[unsafe(no_mangle)]
 pub extern "C" fn jubrelti_open(store: &mut [u64]) -> u64
     ensures { ((result ∷ []), store.new) ≡ open_run store.old }
 {
-    let opened = structs::pdb::open(store);
-    answers::of_opened(opened)
+    number_of(structs::pdb::open(store))
 }
 
 #[unsafe(no_mangle)]
 pub extern "C" fn jubrelti_copy(from: &[u64], to: &mut [u64]) -> u64
     ensures { ((result ∷ []), to.new) ≡ copy_run from.now to.old }
 {
-    let copied = copies::copy(from, to);
-    answers::of_opened(copied)
+    number_of(copies::copy(from, to))
 }
 
 #[unsafe(no_mangle)]
 pub extern "C" fn jubrelti_find(store: &[u64], tree: &[u64], out: &mut [u64]) -> FindAnswer
     ensures { (find_fields result, out.new) ≡ find_run store.now tree.now out.old }
 {
-    let found = structs::pdb::find(store, tree, out);
-    answers::of_found(found)
+    structs::pdb::find(store, tree, out).into()
 }
 
 #[unsafe(no_mangle)]
@@ -72,8 +64,7 @@ pub extern "C" fn jubrelti_model_find(
 ) -> FindAnswer
     ensures { (find_fields result, out.new) ≡ find_from store.now (model ∷ []) tree.now out.old }
 {
-    let found = structs::model::find(store, model, tree, out);
-    answers::of_found(found)
+    structs::model::find(store, model, tree, out).into()
 }
 
 #[unsafe(no_mangle)]
@@ -86,8 +77,7 @@ pub extern "C" fn jubrelti_chain_find(
 ) -> FindAnswer
     ensures { (find_fields result, out.new) ≡ find_from store.now (model ∷ chain ∷ []) tree.now out.old }
 {
-    let found = structs::chain::find(store, model, chain, tree, out);
-    answers::of_found(found)
+    structs::chain::find(store, model, chain, tree, out).into()
 }
 
 #[unsafe(no_mangle)]
@@ -102,8 +92,7 @@ pub extern "C" fn jubrelti_residue_find(
     ensures { (find_fields result, out.new)
         ≡ find_from store.now (model ∷ chain ∷ residue ∷ []) tree.now out.old }
 {
-    let found = structs::residue::find(store, model, chain, residue, tree, out);
-    answers::of_found(found)
+    structs::residue::find(store, model, chain, residue, tree, out).into()
 }
 
 #[unsafe(no_mangle)]
@@ -119,8 +108,7 @@ pub extern "C" fn jubrelti_conformer_find(
     ensures { (find_fields result, out.new)
         ≡ find_from store.now (model ∷ chain ∷ residue ∷ conformer ∷ []) tree.now out.old }
 {
-    let found = structs::conformer::find(store, model, chain, residue, conformer, tree, out);
-    answers::of_found(found)
+    structs::conformer::find(store, model, chain, residue, conformer, tree, out).into()
 }
 
 #[unsafe(no_mangle)]
@@ -132,24 +120,21 @@ pub extern "C" fn jubrelti_binary_find_atom(
 ) -> LookupAnswer
     ensures { lookup_fields result ≡ lookup_run store.now serial (optional_of flag location.now) }
 {
-    let looked_up = structs::pdb::binary_find_atom(store, serial, flag, location);
-    answers::of_looked_up(looked_up)
+    structs::pdb::binary_find_atom(store, serial, flag, location).into()
 }
 
 #[unsafe(no_mangle)]
 pub extern "C" fn jubrelti_write_pdb(store: &[u64], out: &mut [u8]) -> WriteAnswer
     ensures { (write_fields result, out.new) ≡ write_run store.now out.old }
 {
-    let written = structs::pdb::write_pdb(store, out);
-    answers::of_written(written)
+    structs::pdb::write_pdb(store, out).into()
 }
 
 #[unsafe(no_mangle)]
 pub extern "C" fn jubrelti_read_pdb(text: &[u8], store: &mut [u64]) -> u64
     ensures { ((result ∷ []), store.new) ≡ read_run text.now store.old }
 {
-    let opened = structs::pdb::read_pdb(text, store);
-    answers::of_opened(opened)
+    number_of(structs::pdb::read_pdb(text, store))
 }
 
 // ---- the edits
@@ -172,7 +157,7 @@ pub extern "C" fn jubrelti_add_atom(
         ≡ store_step store.old (Calls.AddAtom model (addition chain.now residue
         (optional_of code_flag code.now) conformer.now (optional_of location_flag location.now) name.now values)) }
 {
-    let edited = structs::model::add_atom(
+    structs::model::add_atom(
         store,
         model,
         chain,
@@ -184,24 +169,22 @@ pub extern "C" fn jubrelti_add_atom(
         location,
         name,
         values,
-    );
-    answers::of_edited(edited)
+    )
+    .into()
 }
 
 #[unsafe(no_mangle)]
 pub extern "C" fn jubrelti_add_model(store: &mut [u64], serial: u64) -> EditAnswer
     ensures { (edit_fields result, store.new) ≡ store_step store.old (Calls.AddModel serial) }
 {
-    let edited = structs::pdb::add_model(store, serial);
-    answers::of_edited(edited)
+    structs::pdb::add_model(store, serial).into()
 }
 
 #[unsafe(no_mangle)]
 pub extern "C" fn jubrelti_remove_chain(store: &mut [u64], model: u64, chain: u64) -> EditAnswer
     ensures { (edit_fields result, store.new) ≡ store_step store.old (Calls.RemoveChain model chain) }
 {
-    let edited = structs::model::remove_chain(store, model, chain);
-    answers::of_edited(edited)
+    structs::model::remove_chain(store, model, chain).into()
 }
 
 #[unsafe(no_mangle)]
@@ -213,8 +196,7 @@ pub extern "C" fn jubrelti_remove_residue(
 ) -> EditAnswer
     ensures { (edit_fields result, store.new) ≡ store_step store.old (Calls.RemoveResidue model chain residue) }
 {
-    let edited = structs::chain::remove_residue(store, model, chain, residue);
-    answers::of_edited(edited)
+    structs::chain::remove_residue(store, model, chain, residue).into()
 }
 
 #[unsafe(no_mangle)]
@@ -227,8 +209,7 @@ pub extern "C" fn jubrelti_remove_conformer(
 ) -> EditAnswer
     ensures { (edit_fields result, store.new) ≡ store_step store.old (Calls.RemoveConformer model chain residue conformer) }
 {
-    let edited = structs::residue::remove_conformer(store, model, chain, residue, conformer);
-    answers::of_edited(edited)
+    structs::residue::remove_conformer(store, model, chain, residue, conformer).into()
 }
 
 #[unsafe(no_mangle)]
@@ -242,8 +223,7 @@ pub extern "C" fn jubrelti_remove_atom(
 ) -> EditAnswer
     ensures { (edit_fields result, store.new) ≡ store_step store.old (Calls.RemoveAtom model chain residue conformer atom) }
 {
-    let edited = structs::conformer::remove_atom(store, model, chain, residue, conformer, atom);
-    answers::of_edited(edited)
+    structs::conformer::remove_atom(store, model, chain, residue, conformer, atom).into()
 }
 
 #[unsafe(no_mangle)]
@@ -254,8 +234,7 @@ pub extern "C" fn jubrelti_remove_chain_by_id(
 ) -> EditAnswer
     ensures { (edit_fields result, store.new) ≡ store_step store.old (Calls.RemoveChainById model id.now) }
 {
-    let edited = structs::model::remove_chain_by_id(store, model, id);
-    answers::of_edited(edited)
+    structs::model::remove_chain_by_id(store, model, id).into()
 }
 
 #[unsafe(no_mangle)]
@@ -270,8 +249,7 @@ pub extern "C" fn jubrelti_remove_residue_by_id(
     ensures { (edit_fields result, store.new)
         ≡ store_step store.old (Calls.RemoveResidueById model chain serial (optional_of flag code.now)) }
 {
-    let edited = structs::chain::remove_residue_by_id(store, model, chain, serial, flag, code);
-    answers::of_edited(edited)
+    structs::chain::remove_residue_by_id(store, model, chain, serial, flag, code).into()
 }
 
 #[unsafe(no_mangle)]
@@ -287,10 +265,9 @@ pub extern "C" fn jubrelti_remove_conformer_by_id(
     ensures { (edit_fields result, store.new)
         ≡ store_step store.old (Calls.RemoveConformerById model chain residue name.now (optional_of flag location.now)) }
 {
-    let edited = structs::residue::remove_conformer_by_id(
+    structs::residue::remove_conformer_by_id(
         store, model, chain, residue, name, flag, location,
-    );
-    answers::of_edited(edited)
+    ).into()
 }
 
 #[unsafe(no_mangle)]
@@ -305,26 +282,23 @@ pub extern "C" fn jubrelti_remove_atom_by_serial_number(
     ensures { (edit_fields result, store.new)
         ≡ store_step store.old (Calls.RemoveAtomBySerialNumber model chain residue conformer serial) }
 {
-    let edited = structs::conformer::remove_atom_by_serial_number(
+    structs::conformer::remove_atom_by_serial_number(
         store, model, chain, residue, conformer, serial,
-    );
-    answers::of_edited(edited)
+    ).into()
 }
 
 #[unsafe(no_mangle)]
 pub extern "C" fn jubrelti_remove_empty(store: &mut [u64], model: u64) -> EditAnswer
     ensures { (edit_fields result, store.new) ≡ store_step store.old (Calls.RemoveEmpty model) }
 {
-    let edited = structs::model::remove_empty(store, model);
-    answers::of_edited(edited)
+    structs::model::remove_empty(store, model).into()
 }
 
 #[unsafe(no_mangle)]
 pub extern "C" fn jubrelti_join_models(store: &mut [u64], first: u64, second: u64) -> EditAnswer
     ensures { (edit_fields result, store.new) ≡ store_step store.old (Calls.JoinModels first second) }
 {
-    let edited = structs::model::join(store, first, second);
-    answers::of_edited(edited)
+    structs::model::join(store, first, second).into()
 }
 
 #[unsafe(no_mangle)]
@@ -337,8 +311,7 @@ pub extern "C" fn jubrelti_join_chains(
 ) -> EditAnswer
     ensures { (edit_fields result, store.new) ≡ store_step store.old (Calls.JoinChains model chain second_model second_chain) }
 {
-    let edited = structs::chain::join(store, model, chain, second_model, second_chain);
-    answers::of_edited(edited)
+    structs::chain::join(store, model, chain, second_model, second_chain).into()
 }
 
 #[unsafe(no_mangle)]
@@ -354,7 +327,7 @@ pub extern "C" fn jubrelti_join_residues(
     ensures { (edit_fields result, store.new)
         ≡ store_step store.old (Calls.JoinResidues model chain residue second_model second_chain second_residue) }
 {
-    let edited = structs::residue::join(
+    structs::residue::join(
         store,
         model,
         chain,
@@ -362,8 +335,8 @@ pub extern "C" fn jubrelti_join_residues(
         second_model,
         second_chain,
         second_residue,
-    );
-    answers::of_edited(edited)
+    )
+    .into()
 }
 
 #[unsafe(no_mangle)]
@@ -382,7 +355,7 @@ pub extern "C" fn jubrelti_join_conformers(
         ≡ store_step store.old
         (Calls.JoinConformers model chain residue conformer second_model second_chain second_residue second_conformer) }
 {
-    let edited = structs::conformer::join(
+    structs::conformer::join(
         store,
         model,
         chain,
@@ -392,8 +365,8 @@ pub extern "C" fn jubrelti_join_conformers(
         second_chain,
         second_residue,
         second_conformer,
-    );
-    answers::of_edited(edited)
+    )
+    .into()
 }
 
 #[unsafe(no_mangle)]
@@ -404,8 +377,7 @@ pub extern "C" fn jubrelti_remove_atoms_by(
 ) -> EditAnswer
     ensures { (edit_fields result, store.new) ≡ store_step store.old (Calls.RemoveAtomsBy model tree.now) }
 {
-    let edited = structs::model::remove_atoms_by(store, model, tree);
-    answers::of_edited(edited)
+    structs::model::remove_atoms_by(store, model, tree).into()
 }
 
 #[unsafe(no_mangle)]
@@ -420,8 +392,7 @@ pub extern "C" fn jubrelti_set_element(
 ) -> EditAnswer
     ensures { (edit_fields result, store.new) ≡ store_step store.old (Calls.SetElement model chain residue conformer atom element) }
 {
-    let edited = structs::atom::set_element(store, model, chain, residue, conformer, atom, element);
-    answers::of_edited(edited)
+    structs::atom::set_element(store, model, chain, residue, conformer, atom, element).into()
 }
 
 // ---- a list of edits
@@ -430,6 +401,5 @@ pub extern "C" fn jubrelti_set_element(
 pub extern "C" fn jubrelti_apply(store: &mut [u64], list: &[u64], out: &mut [u64]) -> ApplyAnswer
     ensures { ran (apply_fields result) store.new out.new ≡ apply_run store.old list.now out.old }
 {
-    let applied = edits::apply(store, list, out);
-    answers::of_applied(applied)
+    edits::apply(store, list, out).into()
 }

@@ -9,12 +9,11 @@ use lib.Seq.{length-take-le, take-take, drop-drop}
 use lib.Dec.{eqb}
 use Rattle.machine.specs.Lists.{all}
 use Rattle.machine.specs.Record.{Model}
-use Rattle.machine.specs.Answer.{opened_numbers}
+use Rattle.machine.specs.Answer.{Result, opened_numbers}
 use Rattle.machine.specs.Store.{Branch, Machine, flat, records, capacity, good_length, lay_out, open_run}
 use Rattle.machine.specs.Edit.{add_model, step_by}
 use Rattle.machine.specs.Lines.{AtomLine, Entry}
 use Rattle.machine.specs.LinesIn.{atom_in, model_in, lines_in, Part, part_in, entries_in, good_line, good_entry}
-use Rattle.machine.specs.declared.Opened.{Opened}
 use Rattle.laws.specs.Lists.{and_both, concat_map-append}
 use Rattle.laws.specs.Good.{Fit}
 use Rattle.laws.specs.Layout.{fit_words, lay_out-length, open-empty, lay_out-read}
@@ -272,7 +271,7 @@ module _ (t w₀ : List ℕ) (n i : ℕ) (w : List ℕ) (f : Filled t w₀ n i w
 empty-fits : (n : ℕ) → Fit n []
 empty-fits n = record { good = refl; room = zero-le }
 
-module _ (w w₁ : List ℕ) (o : Opened) (long : good_length (length w) ≡ true) (q : (opened_numbers o, w₁) ≡ open_run w) where
+module _ (w w₁ : List ℕ) (o : Result (Unit {0})) (long : good_length (length w) ≡ true) (q : (opened_numbers o, w₁) ≡ open_run w) where
   opened-is : w₁ ≡ lay_out (length w) []
   unfolding open_run
   opened-is = ap (λ (p : List ℕ × List ℕ). p.1) q ∙ rw long (open-empty (length w) long)

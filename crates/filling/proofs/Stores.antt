@@ -1,15 +1,15 @@
 -- A store that takes lines: one addition, then some lines before others. Assumes nothing.
+use Rattle.std.specs.Prelude.{Ok, Option, Some}
 use Prim.Native.Nat.{ℕ, zero, suc, ◌*◌, ◌≤◌, ◌<◌}
 use mathlib.Core.Path.{◌≡◌, refl, sym, ap, ◌∙◌, subst}
 use mathlib.Core.Bool.{Bool, true}
 use mathlib.Core.List.{List, [], ◌∷◌, ◌++◌}
-use mathlib.Core.Option.{Option, some}
 use native.Mathlib.Nat.{le_refl}
 use native.Mathlib.Omega.{arith}
 use lib.ListN.{length, length-append}
 use borrow.Author.Tests.{le-leb}
 use Rattle.machine.specs.Lists.{all, nth, splice}
-use Rattle.machine.specs.Answer.{Result, ok, ◌>>=◌, ◌>>◌, need, position}
+use Rattle.machine.specs.Answer.{Result, ◌>>=◌, ◌>>◌, need, position}
 use Rattle.machine.specs.Record.{good_values}
 use Rattle.machine.specs.Store.{Branch, Machine, flat, records, capacity, lay_out}
 use Rattle.machine.specs.Edit.{Change, changed, next, Call, AddModel, AddAtom, machine_step, add_model, add_prepared, fits, branch_at, replace_at, new_atom, into_chains, step_by}
@@ -39,14 +39,14 @@ pub held-lay_out : (n : ℕ) (m : Machine) → 12 * length (records m) < n → h
 held-lay_out n m h = rw (records_of-lay_out n m h) (group-flats 4 (omega arith) m)
 
 module _ (w w' numbers : List ℕ) (step : Machine → Result Change) (call : Call) (m : Machine) (g : Good w) where
-  written : step (held w) ≡ ok (changed m) → (numbers, w') ≡ step_by w step → w' ≡ lay_out (length w) m
+  written : step (held w) ≡ Ok (changed m) → (numbers, w') ≡ step_by w step → w' ≡ lay_out (length w) m
   unfolding step_by
   written e q = ap (λ (p : List ℕ × List ℕ). p.1) q ∙ rw (g, e)
 
-  fit-after : machine_step (length w) (held w) call ≡ ok (changed m) → Fit (length w) m
+  fit-after : machine_step (length w) (held w) call ≡ Ok (changed m) → Fit (length w) m
   fit-after e = subst (λ (r : Result Change). Fit (length w) (next (held w) r)) e (step_keeps (length w) (held w) call (read-fit w (held w) g))
 
-  accepted : step (held w) ≡ ok (changed m) → machine_step (length w) (held w) call ≡ ok (changed m) → (numbers, w') ≡ step_by w step → Became m w w'
+  accepted : step (held w) ≡ Ok (changed m) → machine_step (length w) (held w) call ≡ Ok (changed m) → (numbers, w') ≡ step_by w step → Became m w w'
   accepted e f q =
       let n = length w in
       let long = read_length w (held w) g in
@@ -59,8 +59,8 @@ module _ (w w' numbers : List ℕ) (step : Machine → Result Change) (call : Ca
         holds = ap held is ∙ held-lay_out n m less;
       }
 
-has_room : (n : ℕ) (m : Machine) → length (records m) ≤ capacity n → fits n m ≡ ok (changed m)
-has_room n m h = ap (λ (b : Bool). need b NoCapacity >> ok (changed m)) (le-leb (length (records m)) (capacity n) h)
+has_room : (n : ℕ) (m : Machine) → length (records m) ≤ capacity n → fits n m ≡ Ok (changed m)
+has_room n m h = ap (λ (b : Bool). need b NoCapacity >> Ok (changed m)) (le-leb (length (records m)) (capacity n) h)
 
 pub model-added : (w w' numbers : List ℕ) (serial : ℕ) → Good w → length (records (held w ++ ((record { serial = serial }, []) ∷ []))) ≤ capacity (length w)
     → (numbers, w') ≡ step_by w (add_model (length w) serial) → Became (held w ++ ((record { serial = serial }, []) ∷ [])) w w'
@@ -72,12 +72,12 @@ model-added w w' numbers serial g h q =
 -- ---- the model at an index
 
 module _ {A : Type 0} where
-  nth-some : (i : ℕ) (xs : List A) → i < length xs → (x : A) × (nth i xs ≡ some x)
+  nth-some : (i : ℕ) (xs : List A) → i < length xs → (x : A) × (nth i xs ≡ Some x)
   nth-some i [] h = absurd (omega arith)
   nth-some zero (x ∷ xs) h = (x, refl)
   nth-some (suc i) (x ∷ xs) h = nth-some i xs (omega arith)
 
-  change-at : (i : ℕ) (f : A → A) (xs : List A) (x : A) → nth i xs ≡ some x → splice i (λ y. f x ∷ []) xs ≡ change i f xs
+  change-at : (i : ℕ) (f : A → A) (xs : List A) (x : A) → nth i xs ≡ Some x → splice i (λ y. f x ∷ []) xs ≡ change i f xs
   change-at i f [] x e = refl
   change-at zero f (y ∷ xs) x e = let q : y ≡ x = cc in rw q
   change-at (suc i) f (y ∷ xs) x e = ap (λ (l : List A). y ∷ l) (change-at i f xs x e)
@@ -107,7 +107,7 @@ in-grows (suc i) ls (t ∷ m) = omega (arith, length-append (flat 4 t) (records 
 -- ---- one line
 
 module _ (n i : ℕ) (l : AtomLine) (m : Machine) (g : good_line l ≡ true) (there : i < length m) (room : length (records (in_model i (l ∷ []) m)) ≤ capacity n) where
-  atom-step : add_prepared n i (ok (prepared_of l)) m ≡ ok (changed (in_model i (l ∷ []) m))
+  atom-step : add_prepared n i (Ok (prepared_of l)) m ≡ Ok (changed (in_model i (l ∷ []) m))
   unfolding add_prepared branch_at replace_at
   atom-step =
       let t = nth-some i m there in
@@ -116,18 +116,18 @@ module _ (n i : ℕ) (l : AtomLine) (m : Machine) (g : good_line l ≡ true) (th
       ∙ ap (fits n) (change-at i (λ v. (v.0, into_all (l ∷ []) v.1)) m t.0 t.1)
       ∙ has_room n (in_model i (l ∷ []) m) room
 
-  atom-call : machine_step n m (AddAtom i (addition_of l)) ≡ ok (changed (in_model i (l ∷ []) m))
+  atom-call : machine_step n m (AddAtom i (addition_of l)) ≡ Ok (changed (in_model i (l ∷ []) m))
   unfolding machine_step
   atom-call = ap (λ (r : Result PreparedAddition). add_prepared n i r m) (prepared l g) ∙ atom-step
 
 pub line-added : (w w' numbers : List ℕ) (i : ℕ) (l : AtomLine) (new : PreparedAddition) → Ready i (l ∷ []) w → new ≡ prepared_of l
-    → (numbers, w') ≡ step_by w (add_prepared (length w) i (ok new)) → Became (in_model i (l ∷ []) (held w)) w w'
+    → (numbers, w') ≡ step_by w (add_prepared (length w) i (Ok new)) → Became (in_model i (l ∷ []) (held w)) w w'
 line-added w w' numbers i l new r e q =
     let g = (and_both (good_line l) true r.lines).0 in
-    accepted w w' numbers (add_prepared (length w) i (ok (prepared_of l))) (AddAtom i (addition_of l)) (in_model i (l ∷ []) (held w)) r.good
+    accepted w w' numbers (add_prepared (length w) i (Ok (prepared_of l))) (AddAtom i (addition_of l)) (in_model i (l ∷ []) (held w)) r.good
     (atom-step (length w) i l (held w) g r.there r.room)
     (atom-call (length w) i l (held w) g r.there r.room)
-    (q ∙ ap (λ (p : PreparedAddition). step_by w (add_prepared (length w) i (ok p))) e)
+    (q ∙ ap (λ (p : PreparedAddition). step_by w (add_prepared (length w) i (Ok p))) e)
 
 -- ---- some lines before others
 

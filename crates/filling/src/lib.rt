@@ -14,7 +14,6 @@ ghost use Rattle.seek.specs.Seek.{Good, held};
 ghost use Rattle.insertion.specs.Cursor.{Valid};
 ghost use Rattle.filling.specs.Fill.{atoms_in, first_chain, model_atoms, model_of, atom_lines, in_model, Ready, Became};
 
-use additions::Preparation;
 use insertion::Cursor;
 
 // Bytes of a line, with its newline.
@@ -61,7 +60,7 @@ fn add_line(line: &[u8], store: &mut [u64], cursor: Cursor, model: u64) -> Curso
     ensures became { Became (in_model model (atom_in line.now ∷ []) (held store.old)) store.old store.new }
 {
     let new = scanner::atom_in(line);
-    let added = additions::add_prepared(store, cursor, model, Preparation::Ready(new));
+    let added = additions::add_prepared(store, cursor, model, Ok(new));
     added.cursor
 }
 
@@ -121,7 +120,7 @@ fn add_entry(lines: &[u8], store: &mut [u64], model: u64)
     ensures { Became (held store.old ++ (model_of lines.now ∷ [])) store.old store.new }
 {
     let serial = scanner::model_in(&lines[0..LINE]);
-    let _added = additions::add_model(store, serial);
+    let _ = additions::add_model(store, serial);
     add_chains(&lines[LINE..], store, model);
 }
 
@@ -167,6 +166,6 @@ pub fn fill(text: &[u8], store: &mut [u64])
     requires room { length (records (build (entries_in text.now))) ≤ capacity (length store.old) }
     ensures { store.new ≡ lay_out (length store.old) (build (entries_in text.now)) }
 {
-    let _opened = store::open(store);
+    let _ = store::open(store);
     fill_models(text, store);
 }

@@ -11,27 +11,20 @@ ghost use Rattle.machine.specs.Record.{finite};
 ghost use Rattle.machine.specs.Query as Query;
 
 use machine::FloatClass;
+use std::num::f64_from_bits_with_nan;
 
-// The f64 of any bits. `from_bits` is not defined at a NaN's pattern, so a NaN is made there.
+// The f64 of any bits, those of a NaN too.
 pub fn float_of(bits: u64) -> f64
     ensures { result ≡ of_bits binary64 bits }
 {
-    let magnitude = bits % 0x8000_0000_0000_0000;
-    if 0x7ff0_0000_0000_0000 < magnitude {
-        return 0.0 / 0.0;
-    }
-    f64::from_bits(bits)
+    f64_from_bits_with_nan(bits)
 }
 
 // The i64 of any two's complement bits.
 pub fn int_of(bits: u64) -> i64
     ensures { result ≡ to_z w64 bits }
 {
-    if bits < 0x8000_0000_0000_0000 {
-        bits as i64
-    } else {
-        -1 - ((0xffff_ffff_ffff_ffff - bits) as i64)
-    }
+    bits.cast_signed()
 }
 
 // IEEE 754's class of any bits, by the fields of exponent and fraction.
@@ -40,21 +33,11 @@ pub fn class_of(bits: u64) -> FloatClass
 {
     let exponent = bits / 0x10_0000_0000_0000 % 0x800;
     let fraction = bits % 0x10_0000_0000_0000;
-    match exponent {
-        0x7ff => {
-            if fraction == 0 {
-                FloatClass::Infinite
-            } else {
-                FloatClass::NotANumber
-            }
-        },
-        0 => {
-            if fraction == 0 {
-                FloatClass::Zero
-            } else {
-                FloatClass::Subnormal
-            }
-        },
+    match (exponent, fraction) {
+        (0x7ff, 0) => FloatClass::Infinite,
+        (0x7ff, _) => FloatClass::NotANumber,
+        (0, 0) => FloatClass::Zero,
+        (0, _) => FloatClass::Subnormal,
         _ => FloatClass::Normal,
     }
 }
@@ -76,10 +59,5 @@ pub fn is_finite(bits: u64) -> bool
 pub fn close(a: f64, b: f64) -> bool
     ensures { result ≡ Query.close a b }
 {
-    let d = a - b;
-    if d < 0.0 {
-        -d < 2.220446049250313e-16
-    } else {
-        d < 2.220446049250313e-16
-    }
+    (a - b).abs() < f64::EPSILON
 }

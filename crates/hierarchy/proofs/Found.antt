@@ -1,17 +1,17 @@
 -- Find's hits, from any start, are hits here (`find-named`), and the records of a stored atom's numbers say what its place says (`sites-shown`), at which find's tree is valued.
 -- Assumes nothing.
+use Rattle.std.specs.Prelude.{Err, None, Ok, Option, Some}
 use Prim.Native.Nat.{ℕ, zero, suc, ◌+◌, ◌-◌, ◌*◌, ◌/◌, ◌<◌}
 use mathlib.Core.Path.{◌≡◌, refl, sym, ap, ◌∙◌}
 use mathlib.Core.Bool.{Bool, true, false}
 use mathlib.Core.List.{List, [], ◌∷◌, ◌++◌, append_assoc, append-nil}
-use mathlib.Core.Option.{Option, none, some}
 use native.Mathlib.Omega.{arith}
 use lib.ListN.{length, get_or, take, drop, replicate, length-append, length-drop}
 use lib.Seq.{drop-drop, drop-append_seam, get_or-drop}
 use lib.Dec.{leb}
 use borrow.Author.Tests.{lt-ltb}
 use Rattle.machine.specs.Lists.{filter, concat_map, concat_map_from}
-use Rattle.machine.specs.Answer.{Result, ok, refused, ◌>>=◌, ◌>>◌, position}
+use Rattle.machine.specs.Answer.{Result, ◌>>=◌, ◌>>◌, position}
 use Rattle.machine.specs.Record.{Fields, Words, words, fields_of}
 use Rattle.machine.specs.Store.{Branch, Machine, flat, records, stored, laid, lay_out, read_store}
 use Rattle.machine.specs.Kleene.{is_hit}
@@ -27,7 +27,6 @@ use Rattle.laws.specs.Numbers.{under-start, All-start, under-five, hits-five, fi
 use Rattle.laws.specs.Layout.{lay_out-read, read_length, read-fit, fit_words}
 use Rattle.moves.proofs.Records.{record-at}
 use Rattle.hierarchy.specs.Hit.{record_of, is_kind, are_kinds, numbers_at, named_by, nth_of}
-use Rattle.hierarchy.specs.declared.Named.TheVariants.{At}
 
 -- ---- the records of the stored atoms' sites
 
@@ -70,14 +69,14 @@ module _ (rs : List Words) where
 
 -- what the store's words say at a site's five numbers: they are a hit, and their records' fields are the site's
 pub record Shown (w : List ℕ) (s : Site) : Type 0 where
-  pub named : named_by w (numbers_at s.numbers 0) ≡ At (numbers_at s.numbers 0)
-  pub model : some (fields_of 4 (record_of w (numbers_at s.numbers 0).model)) ≡ s.place.model
-  pub chain : some (fields_of 3 (record_of w (numbers_at s.numbers 0).chain)) ≡ s.place.chain
-  pub residue : some (fields_of 2 (record_of w (numbers_at s.numbers 0).residue)) ≡ s.place.residue
-  pub conformer : some (fields_of 1 (record_of w (numbers_at s.numbers 0).conformer)) ≡ s.place.conformer
-  pub atom : some (fields_of 0 (record_of w (numbers_at s.numbers 0).atom)) ≡ s.place.atom
+  pub named : named_by w (numbers_at s.numbers 0) ≡ Some (numbers_at s.numbers 0)
+  pub model : Some (fields_of 4 (record_of w (numbers_at s.numbers 0).model)) ≡ s.place.model
+  pub chain : Some (fields_of 3 (record_of w (numbers_at s.numbers 0).chain)) ≡ s.place.chain
+  pub residue : Some (fields_of 2 (record_of w (numbers_at s.numbers 0).residue)) ≡ s.place.residue
+  pub conformer : Some (fields_of 1 (record_of w (numbers_at s.numbers 0).conformer)) ≡ s.place.conformer
+  pub atom : Some (fields_of 0 (record_of w (numbers_at s.numbers 0).atom)) ≡ s.place.atom
 
-module _ (w : List ℕ) (m : Machine) (h : read_store w ≡ ok m) where
+module _ (w : List ℕ) (m : Machine) (h : read_store w ≡ Ok m) where
   record-words : (n : ℕ) (r : Words) → Is (records m) n r → record_of w n ≡ r
   unfolding lay_out laid
   record-words n r i =
@@ -149,22 +148,22 @@ All-at P [] a i l = absurd (omega arith)
 All-at P (h ∷ hs) a zero l = a.0
 All-at P (h ∷ hs) a (suc i) l = All-at P hs a.1 i (omega arith)
 
-hits-named : (w : List ℕ) (low : ℕ) (t : List ℕ) (atoms : List Site) → All (Shown w) atoms → All (λ h. named_by w (numbers_at h 0) ≡ At (numbers_at h 0)) (hits_among tables low t atoms)
+hits-named : (w : List ℕ) (low : ℕ) (t : List ℕ) (atoms : List Site) → All (Shown w) atoms → All (λ h. named_by w (numbers_at h 0) ≡ Some (numbers_at h 0)) (hits_among tables low t atoms)
 hits-named w low t atoms shown =
     let hit : Site → Bool = λ s. is_hit (value_from tables low t s) in
-    All-over (λ h. named_by w (numbers_at h 0) ≡ At (numbers_at h 0)) (λ (s : Site). s.numbers) (filter hit atoms)
-    (filter-All (λ s. named_by w (numbers_at s.numbers 0) ≡ At (numbers_at s.numbers 0)) hit atoms (All-map (λ s x. x.named) atoms shown))
+    All-over (λ h. named_by w (numbers_at h 0) ≡ Some (numbers_at h 0)) (λ (s : Site). s.numbers) (filter hit atoms)
+    (filter-All (λ s. named_by w (numbers_at s.numbers 0) ≡ Some (numbers_at s.numbers 0)) hit atoms (All-map (λ s x. x.named) atoms shown))
 
 module _ (w out : List ℕ) (n i : ℕ) (low : i < n) where
   -- a run that gives n hits has an i-th, and this names its records
   abbrev Names : List ℕ × List ℕ → Type 0
-  Names run = run.0 ≡ 0 ∷ n ∷ [] → nth_of w run.1 i ≡ At (numbers_at run.1 i)
+  Names run = run.0 ≡ 0 ∷ n ∷ [] → nth_of w run.1 i ≡ Some (numbers_at run.1 i)
 
   -- a refused one gives none
-  by-refusal : (c : Refusal) → Names (written out (refused c))
+  by-refusal : (c : Refusal) → Names (written out (Err c))
   by-refusal c e = let z : 0 ≡ n = ap (λ (l : List ℕ). get_or l 1 0) e in absurd (omega arith)
 
-  by-room : (hs : List (List ℕ)) → All (λ h. length h ≡ 5) hs → All (λ h. named_by w (numbers_at h 0) ≡ At (numbers_at h 0)) hs → (b : Bool) → leb (5 * length hs) (length out) ≡ b → Names (written out (ok hs))
+  by-room : (hs : List (List ℕ)) → All (λ h. length h ≡ 5) hs → All (λ h. named_by w (numbers_at h 0) ≡ Some (numbers_at h 0)) hs → (b : Bool) → leb (5 * length hs) (length out) ≡ b → Names (written out (Ok hs))
   unfolding nth_of
   by-room hs fs ns true q e =
       let words = hit_words hs ++ drop (5 * length hs) out in
@@ -172,21 +171,21 @@ module _ (w out : List ℕ) (n i : ℕ) (low : i < n) where
       let count : length hs ≡ n = ap (λ (l : List ℕ). get_or l 1 0) listed in
       let room : i < length words / 5 = omega (arith, length-append (hit_words hs) (drop (5 * length hs) out), five-words hs fs) in
       let same : numbers_at words i ≡ numbers_at (get_or hs i []) 0 = hit-numbers hs fs i (omega arith) (drop (5 * length hs) out) in
-      rw (q, lt-ltb i (length words / 5) room, same) (All-at (λ h. named_by w (numbers_at h 0) ≡ At (numbers_at h 0)) hs ns i (omega arith))
+      rw (q, lt-ltb i (length words / 5) room, same) (All-at (λ h. named_by w (numbers_at h 0) ≡ Some (numbers_at h 0)) hs ns i (omega arith))
   by-room hs fs ns false q e = rw q (by-refusal ShortOutput (rw q at e))
 
   module _ (start t : List ℕ) where
-    by-tree : (atoms : List Site) → All (λ s. length s.numbers ≡ 5) atoms → All (Shown w) atoms → (x : Result (List Node)) → Names (written out (x >> ok (hits_among tables (lowest start) t atoms)))
-    by-tree atoms five shown (ok ns) = by-room (hits_among tables (lowest start) t atoms) (hits-five tables (lowest start) t atoms five) (hits-named w (lowest start) t atoms shown) _ refl
-    by-tree atoms five shown (refused c) = by-refusal c
+    by-tree : (atoms : List Site) → All (λ s. length s.numbers ≡ 5) atoms → All (Shown w) atoms → (x : Result (List Node)) → Names (written out (x >> Ok (hits_among tables (lowest start) t atoms)))
+    by-tree atoms five shown (Ok ns) = by-room (hits_among tables (lowest start) t atoms) (hits-five tables (lowest start) t atoms five) (hits-named w (lowest start) t atoms shown) _ refl
+    by-tree atoms five shown (Err c) = by-refusal c
 
-    by-start : (m : Machine) → read_store w ≡ ok m → (x : Option (List Site)) → atoms_from start m ≡ x → Names (written out (position x >>= (λ atoms. read_tree t >> ok (hits_among tables (lowest start) t atoms))))
-    by-start m h (some atoms) e = by-tree atoms (under-five (stored m) atoms (under-start start m atoms e)) (All-start (Shown w) start m atoms e (sites-shown w m h)) (read_tree t)
-    by-start m h none e = by-refusal NoPosition
+    by-start : (m : Machine) → read_store w ≡ Ok m → (x : Option (List Site)) → atoms_from start m ≡ x → Names (written out (position x >>= (λ atoms. read_tree t >> Ok (hits_among tables (lowest start) t atoms))))
+    by-start m h (Some atoms) e = by-tree atoms (under-five (stored m) atoms (under-start start m atoms e)) (All-start (Shown w) start m atoms e (sites-shown w m h)) (read_tree t)
+    by-start m h None e = by-refusal NoPosition
 
-    by-store : (x : Result Machine) → read_store w ≡ x → Names (written out (x >>= (λ m. position (atoms_from start m) >>= (λ atoms. read_tree t >> ok (hits_among tables (lowest start) t atoms)))))
-    by-store (ok m) h = by-start m h (atoms_from start m) refl
-    by-store (refused c) h = by-refusal c
+    by-store : (x : Result Machine) → read_store w ≡ x → Names (written out (x >>= (λ m. position (atoms_from start m) >>= (λ atoms. read_tree t >> Ok (hits_among tables (lowest start) t atoms)))))
+    by-store (Ok m) h = by-start m h (atoms_from start m) refl
+    by-store (Err c) h = by-refusal c
 
     -- every hit of an accepted run of find names its records
     pub find-named : Names (find_from w start t out)

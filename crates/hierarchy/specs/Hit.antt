@@ -1,5 +1,5 @@
 -- Document 01, "Vec, Box and borrowed hits": "a hit that borrows the store and names five records". Assumes nothing.
-use Rattle.std.specs.Prelude.{ℕ, ◌+◌, ◌*◌, ◌/◌, Bool, ◌&&◌, cond, List, [], length, get_or, ltb, eqb}
+use Rattle.std.specs.Prelude.{ℕ, ◌+◌, ◌*◌, ◌/◌, Bool, ◌&&◌, cond, List, [], length, get_or, ltb, eqb, None, Option, Some}
 use Rattle.std.specs.Borrow.{Bor}
 use Rattle.std.specs.Int.{w64}
 use Rattle.std.proofs.Common.{to_z}
@@ -7,8 +7,6 @@ use Rattle.machine.specs.Record.{Words, kind, fields_of, read_out}
 use Rattle.machine.specs.declared.AtomRec.{AtomRec}
 use Rattle.machine.specs.declared.RecordNumbers.{RecordNumbers}
 use Rattle.seek.specs.Seek.{record_at}
-use Rattle.hierarchy.specs.declared.Named.{Named}
-use Rattle.hierarchy.specs.declared.Named.TheVariants.{At, Missing}
 use Rattle.hierarchy.specs.declared.Hit.{Hit}
 use Rattle.hierarchy.specs.declared.ModelRec.{ModelRec}
 use Rattle.hierarchy.specs.declared.ChainRec.{ChainRec}
@@ -39,12 +37,12 @@ numbers_at out i =
 unfoldable pub are_kinds : List ℕ → RecordNumbers → Bool
 are_kinds w n = ((is_kind w n.model 1 && is_kind w n.chain 2) && (is_kind w n.residue 3 && is_kind w n.conformer 4)) && is_kind w n.atom 5
 
-unfoldable pub named_by : List ℕ → RecordNumbers → Named
-named_by w n = cond (are_kinds w n) (At n) Missing
+unfoldable pub named_by : List ℕ → RecordNumbers → Option RecordNumbers
+named_by w n = cond (are_kinds w n) (Some n) None
 
 -- the i-th hit of an output
-unfoldable pub nth_of : List ℕ → List ℕ → ℕ → Named
-nth_of w out i = cond (ltb i (length out / 5)) (named_by w (numbers_at out i)) Missing
+unfoldable pub nth_of : List ℕ → List ℕ → ℕ → Option RecordNumbers
+nth_of w out i = cond (ltb i (length out / 5)) (named_by w (numbers_at out i)) None
 
 -- a hit that borrows the store and names the records of five numbers
 abbrev pub hit_of : Bor (List ℕ) → RecordNumbers → Hit

@@ -28,13 +28,6 @@ pub struct ConformerRec {
     pub location: u64,
 }
 
-// What the five words of a hit name, or that they name nothing.
-#[derive(Clone, Copy)]
-pub enum Named {
-    At(RecordNumbers),
-    Missing,
-}
-
 // pdbtbx's `AtomConformerResidueChainModel`: "a hit that borrows the store and names five records".
 #[derive(Clone, Copy)]
 pub struct Hit<'a> {
@@ -62,6 +55,7 @@ fn word(store: &[u64], number: u64, i: usize) -> u64
     }
 }
 
+#[tactic(auto, unfolding(crate::specs::Hit::model_of, machine::specs::Record::fields_of))]
 pub fn model_at(store: &[u64], number: u64) -> ModelRec
     ensures { result ≡ model_of store.now number }
 {
@@ -70,6 +64,7 @@ pub fn model_at(store: &[u64], number: u64) -> ModelRec
     }
 }
 
+#[tactic(auto, unfolding(crate::specs::Hit::chain_of, machine::specs::Record::fields_of))]
 pub fn chain_at(store: &[u64], number: u64) -> ChainRec
     ensures { result ≡ chain_of store.now number }
 {
@@ -78,6 +73,7 @@ pub fn chain_at(store: &[u64], number: u64) -> ChainRec
     }
 }
 
+#[tactic(auto, unfolding(crate::specs::Hit::residue_of, machine::specs::Record::fields_of))]
 pub fn residue_at(store: &[u64], number: u64) -> ResidueRec
     ensures { result ≡ residue_of store.now number }
 {
@@ -87,6 +83,7 @@ pub fn residue_at(store: &[u64], number: u64) -> ResidueRec
     }
 }
 
+#[tactic(auto, unfolding(crate::specs::Hit::conformer_of, machine::specs::Record::fields_of))]
 pub fn conformer_at(store: &[u64], number: u64) -> ConformerRec
     ensures { result ≡ conformer_of store.now number }
 {
@@ -96,6 +93,7 @@ pub fn conformer_at(store: &[u64], number: u64) -> ConformerRec
     }
 }
 
+#[tactic(auto, unfolding(crate::specs::Hit::atom_of, machine::specs::Record::fields_of, machine::specs::Record::read_out))]
 pub fn atom_at(store: &[u64], number: u64) -> AtomRec
     ensures { result ≡ atom_of store.now number }
 {
@@ -108,12 +106,14 @@ pub fn atom_at(store: &[u64], number: u64) -> AtomRec
     records::read_atom(&none, 0)
 }
 
+#[tactic(auto, unfolding(crate::specs::Hit::is_kind))]
 fn is_kind(store: &[u64], number: u64, kind: u64) -> bool
     ensures { result ≡ is_kind store.now number kind }
 {
     word(store, number, Record::KIND) == kind
 }
 
+#[tactic(auto, unfolding(crate::specs::Hit::are_kinds))]
 fn are_kinds(store: &[u64], at: RecordNumbers) -> bool
     ensures { result ≡ are_kinds store.now at }
 {
@@ -124,18 +124,16 @@ fn are_kinds(store: &[u64], at: RecordNumbers) -> bool
 }
 
 // Whether five numbers are those of records of the five kinds. That each stands under the one before is not looked at.
-pub fn by_numbers(store: &[u64], at: RecordNumbers) -> Named
+#[tactic(auto, unfolding(crate::specs::Hit::named_by))]
+pub fn by_numbers(store: &[u64], at: RecordNumbers) -> Option<RecordNumbers>
     ensures { result ≡ named_by store.now at }
 {
-    if are_kinds(store, at) {
-        Named::At(at)
-    } else {
-        Named::Missing
-    }
+    if are_kinds(store, at) { Some(at) } else { None }
 }
 
 // The i-th hit of an output.
-pub fn nth(store: &[u64], out: &[u64], i: u64) -> Named
+#[tactic(auto, unfolding(crate::specs::Hit::nth_of))]
+pub fn nth(store: &[u64], out: &[u64], i: u64) -> Option<RecordNumbers>
     ensures { result ≡ nth_of store.now out.now i }
 {
     let hits = out.len() / 5;
@@ -153,7 +151,7 @@ pub fn nth(store: &[u64], out: &[u64], i: u64) -> Named
             },
         )
     } else {
-        Named::Missing
+        None
     }
 }
 

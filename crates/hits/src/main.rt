@@ -1,143 +1,79 @@
 // The hits of find on a small store, read out by `Hit`.
 #![tactic(auto)]
 
-ghost use Rattle.std.specs.Prelude.{◌≡◌};
-ghost use Rattle.hierarchy.specs.Hit.{model_of, chain_of, residue_of, conformer_of, atom_of};
-
-use hierarchy::{ChainRec, ConformerRec, Hit, ModelRec, Named, ResidueRec};
-use machine::{AtomRec, NewAtom, RecordNumbers};
-use std::io;
+use hierarchy::Hit;
+use machine::{AtomRec, FindAnswer, NewAtom};
+use std::{fmt, io};
 use structs::{model, pdb};
-
-// ---- a hit made and asked for one of its records
-
-fn model_of(store: &[u64], at: RecordNumbers) -> ModelRec
-    ensures { result ≡ model_of store.now at.model }
-{
-    Hit::new(store, at).model()
-}
-
-fn chain_of(store: &[u64], at: RecordNumbers) -> ChainRec
-    ensures { result ≡ chain_of store.now at.chain }
-{
-    Hit::new(store, at).chain()
-}
-
-fn residue_of(store: &[u64], at: RecordNumbers) -> ResidueRec
-    ensures { result ≡ residue_of store.now at.residue }
-{
-    Hit::new(store, at).residue()
-}
-
-fn conformer_of(store: &[u64], at: RecordNumbers) -> ConformerRec
-    ensures { result ≡ conformer_of store.now at.conformer }
-{
-    Hit::new(store, at).conformer()
-}
-
-fn atom_of(store: &[u64], at: RecordNumbers) -> AtomRec
-    ensures { result ≡ atom_of store.now at.atom }
-{
-    Hit::new(store, at).atom()
-}
 
 // ---- what is printed
 
-fn print_number(rt: &impl Print, name: &[u8], n: u64) -> io::Result<()> {
-    rt.write_all(name)?;
-    rt.print(n)
-}
-
-// The lowest byte of a word, if it isn't 0.
-fn print_byte(rt: &impl Print, word: u64) -> io::Result<()> {
-    let low = word % 256;
-    if low != 0 {
-        let byte = [low as u8];
-        rt.write_all(&byte)?;
-    }
-    Ok(())
-}
-
 // A packed text: its bytes from the highest down. A dash stands for 0, which is absent.
-fn print_text(rt: &impl Print, name: &[u8], text: u64) -> io::Result<()> {
-    rt.write_all(name)?;
-    if text == 0 {
-        rt.write_all(b"-")?;
-    }
-    print_byte(rt, text >> 56)?;
-    print_byte(rt, text >> 48)?;
-    print_byte(rt, text >> 40)?;
-    print_byte(rt, text >> 32)?;
-    print_byte(rt, text >> 24)?;
-    print_byte(rt, text >> 16)?;
-    print_byte(rt, text >> 8)?;
-    print_byte(rt, text)
-}
+#[derive(Clone, Copy)]
+struct Text(u64);
 
-// A float that isn't negative, without its fraction, if that fits a word.
-fn print_whole(rt: &impl Print, x: f64) -> io::Result<()> {
-    if x > -1.0 {
-        if x < 18446744073709551616.0 {
-            rt.print(std::num::truncating_f64_to_u64(x))?;
+impl fmt::Display for Text {
+    fn fmt<W: fmt::Write>(&self, f: &mut fmt::Formatter<W>) -> fmt::Result {
+        if self.0 == 0 {
+            return f.write_char('-');
         }
-    }
-    Ok(())
-}
-
-fn print_signed(rt: &impl Print, name: &[u8], x: f64) -> io::Result<()> {
-    rt.write_all(name)?;
-    if x < 0.0 {
-        rt.write_all(b"-")?;
-        print_whole(rt, -x)
-    } else {
-        print_whole(rt, x)
+        for byte in self.0.to_be_bytes() {
+            if byte != 0 {
+                f.write_char(char::from(byte))?;
+            }
+        }
+        Ok(())
     }
 }
 
-fn print_residue(rt: &impl Print, residue: ResidueRec) -> io::Result<()> {
-    print_signed(
-        rt,
-        b", residue ",
-        std::num::nearest_i64_to_f64(residue.serial),
-    )?;
-    print_text(rt, b" code ", residue.code)
-}
+// An atom. Floats stand in thousandths.
+#[derive(Clone, Copy)]
+struct ShownAtom(AtomRec);
 
-fn print_conformer(rt: &impl Print, conformer: ConformerRec) -> io::Result<()> {
-    print_text(rt, b", conformer ", conformer.name)?;
-    print_text(rt, b" location ", conformer.location)
-}
-
-// Floats in thousandths.
-fn print_atom(rt: &impl Print, atom: AtomRec) -> io::Result<()> {
-    print_number(rt, b"\natom ", atom.serial)?;
-    print_text(rt, b" ", atom.name)?;
-    print_signed(rt, b" at ", atom.x * 1000.0)?;
-    print_signed(rt, b" ", atom.y * 1000.0)?;
-    print_signed(rt, b" ", atom.z * 1000.0)?;
-    print_signed(rt, b", occupancy ", atom.occupancy * 1000.0)?;
-    print_signed(rt, b", b factor ", atom.b_factor * 1000.0)?;
-    print_number(rt, b", element ", atom.element)?;
-    print_signed(rt, b", charge ", std::num::nearest_i64_to_f64(atom.charge))?;
-    if atom.hetero {
-        rt.write_all(b", hetero")?;
+impl fmt::Display for ShownAtom {
+    fn fmt<W: fmt::Write>(&self, f: &mut fmt::Formatter<W>) -> fmt::Result {
+        let atom = self.0;
+        write!(f, "atom {} {} at", atom.serial, Text(atom.name))?;
+        for x in [atom.x, atom.y, atom.z] {
+            write!(f, " {}", x * 1000.0)?;
+        }
+        let occupancy = atom.occupancy * 1000.0;
+        let b_factor = atom.b_factor * 1000.0;
+        write!(f, ", occupancy {occupancy}, b factor {b_factor}")?;
+        write!(f, ", element {}, charge {}", atom.element, atom.charge)?;
+        if atom.hetero {
+            write!(f, ", hetero")?;
+        }
+        Ok(())
     }
-    rt.write_all(b"\n")
 }
 
-fn print_hit(rt: &impl Print, store: &[u64], at: RecordNumbers) -> io::Result<()> {
-    print_number(rt, b"model ", model_of(store, at).serial)?;
-    print_text(rt, b", chain ", chain_of(store, at).id)?;
-    print_residue(rt, residue_of(store, at))?;
-    print_conformer(rt, conformer_of(store, at))?;
-    print_atom(rt, atom_of(store, at))
+// The records of a hit, read out: where its atom stands, and the atom.
+#[derive(Clone, Copy)]
+struct Shown<'a>(Hit<'a>);
+
+impl fmt::Display for Shown<'_> {
+    fn fmt<W: fmt::Write>(&self, f: &mut fmt::Formatter<W>) -> fmt::Result {
+        let hit = self.0;
+        let model = hit.model().serial;
+        let chain = Text(hit.chain().id);
+        write!(f, "model {model}, chain {chain}")?;
+        let residue = hit.residue();
+        let code = Text(residue.code);
+        write!(f, ", residue {} code {code}", residue.serial)?;
+        let conformer = hit.conformer();
+        let name = Text(conformer.name);
+        let location = Text(conformer.location);
+        writeln!(f, ", conformer {name} location {location}")?;
+        f.write(ShownAtom(hit.atom()))
+    }
 }
 
 // The i-th hit of an output.
 fn print_nth(rt: &impl Print, store: &[u64], out: &[u64], i: u64) -> io::Result<()> {
     match hierarchy::nth(store, out, i) {
-        Named::At(at) => print_hit(rt, store, at),
-        Named::Missing => rt.write_all(b"no hit\n"),
+        Some(at) => rt.println(Shown(Hit::new(store, at))),
+        None => rt.println("no hit"),
     }
 }
 
@@ -147,33 +83,33 @@ fn print_nth(rt: &impl Print, store: &[u64], out: &[u64], i: u64) -> io::Result<
 fn add_first(store: &mut [u64]) {
     let values = NewAtom {
         serial: 3,
-        x: 0x4027_0000_0000_0000,
-        y: 0xc002_0000_0000_0000,
-        z: 0x3fc0_0000_0000_0000,
-        occupancy: 0x3ff0_0000_0000_0000,
-        b_factor: 0x4034_8000_0000_0000,
+        x: 11.5_f64.to_bits(),
+        y: (-2.25_f64).to_bits(),
+        z: 0.125_f64.to_bits(),
+        occupancy: 1.0_f64.to_bits(),
+        b_factor: 20.5_f64.to_bits(),
         element: 7,
         charge: 1,
         hetero: 0,
     };
-    model::add_atom(store, 0, b"A", 7, 0, b"", b"ALA", 0, b"", b"N", values);
+    let _ = model::add_atom(store, 0, b"A", 7, 0, b"", b"ALA", 0, b"", b"N", values);
 }
 
 // Atom `UNKNOWN8` to the second model, to residue -9: at -1.5, 2.5 and -3, of occupancy 0.5 and B-factor 25; its charge is -2.
 fn add_second(store: &mut [u64]) {
     let values = NewAtom {
         serial: 4,
-        x: 0xbff8_0000_0000_0000,
-        y: 0x4004_0000_0000_0000,
-        z: 0xc008_0000_0000_0000,
-        occupancy: 0x3fe0_0000_0000_0000,
-        b_factor: 0x4039_0000_0000_0000,
+        x: (-1.5_f64).to_bits(),
+        y: 2.5_f64.to_bits(),
+        z: (-3.0_f64).to_bits(),
+        occupancy: 0.5_f64.to_bits(),
+        b_factor: 25.0_f64.to_bits(),
         element: 0,
-        charge: 0xffff_ffff_ffff_fffe,
+        charge: (-2_i64).cast_unsigned(),
         hetero: 1,
     };
-    let residue = 0xffff_ffff_ffff_fff7;
-    model::add_atom(
+    let residue = (-9_i64).cast_unsigned();
+    let _ = model::add_atom(
         store,
         1,
         b"B",
@@ -189,9 +125,9 @@ fn add_second(store: &mut [u64]) {
 }
 
 fn build(store: &mut [u64]) {
-    pdb::open(store);
-    pdb::add_model(store, 1);
-    pdb::add_model(store, 2);
+    let _ = pdb::open(store);
+    let _ = pdb::add_model(store, 1);
+    let _ = pdb::add_model(store, 2);
     add_first(store);
     add_second(store);
 }
@@ -199,21 +135,21 @@ fn build(store: &mut [u64]) {
 // The hits of a tree, and what stands after them.
 fn search(rt: &impl Print, store: &[u64], tree: &[u64]) -> io::Result<()> {
     let mut out = [0u64; 15];
-    let found = answers::of_found(pdb::find(store, tree, &mut out));
-    print_number(rt, b"hits ", found.hits)?;
-    rt.write_all(b"\n")?;
-    print_nth(rt, store, &out, 0)?;
-    print_nth(rt, store, &out, 1)?;
-    print_nth(rt, store, &out, 2)
+    let found = FindAnswer::from(pdb::find(store, tree, &mut out));
+    println!(rt; "hits {}", found.hits)?;
+    for i in 0..3 {
+        print_nth(rt, store, &out, i)?;
+    }
+    Ok(())
 }
 
 fn main(rt: HostRuntime) -> io::Result<()> {
     let mut store = [0u64; 121];
     build(&mut store);
-    rt.write_all(b"every atom: ")?;
+    rt.print("every atom: ")?;
     let every = [28u64, 0, 0];
     search(&rt, &store, &every)?;
-    rt.write_all(b"not nitrogen: ")?;
+    rt.print("not nitrogen: ")?;
     let not_nitrogen = [15u64, 7, 0, 26, 0, 0];
     search(&rt, &store, &not_nitrogen)
 }

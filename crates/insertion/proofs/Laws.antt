@@ -1,9 +1,9 @@
 -- What each loop keeps, and what each return gives. Assumes nothing.
+use Rattle.std.specs.Prelude.{None, Option, Some, option_map}
 use Prim.Native.Nat.{ℕ, suc, ◌+◌, ◌*◌, ◌≤◌, ◌<◌}
 use mathlib.Core.Path.{◌≡◌, refl, sym, ap, ◌∙◌}
 use mathlib.Core.Bool.{Bool, true, false}
 use mathlib.Core.List.{List, [], ◌∷◌}
-use mathlib.Core.Option.{Option, none, some, map}
 use native.Mathlib.Nat.{add-zero}
 use native.Mathlib.Numerals.{add-one}
 use native.Mathlib.Omega.{arith}
@@ -16,13 +16,10 @@ use Rattle.machine.specs.Record.{Words}
 use Rattle.machine.specs.Store.{chunks}
 use Rattle.machine.specs.Edit.{Which, first, last, pick}
 use Rattle.laws.specs.Grouped.{chunks-length}
-use Rattle.seek.specs.Seek.{Within, record_at, records_in, descendants, to_end, span_of}
+use Rattle.seek.specs.Seek.{Within, record_at, records_in, descendants, to_end}
 use Rattle.seek.proofs.Below.{record-word, record-kind, records_in-cons, records_in-nil}
-use Rattle.seek.proofs.Laws.{at-span}
-use Rattle.seek.specs.declared.Span as Span
-use Rattle.insertion.specs.Pick.{which_by, marks, pick_start, pick_span, child_of, chain_key, spot_in, found_of}
+use Rattle.insertion.specs.Pick.{which_by, marks, pick_start, pick_span, chain_key, spot_in, found_of}
 use Rattle.insertion.specs.Cursor.{Lands}
-use Rattle.insertion.specs.declared.Child as Child
 use Rattle.insertion.specs.declared.Key.{Key}
 use Rattle.insertion.specs.declared.Spot as Spot
 use Rattle.insertion.proofs.Picks.{or-none, pick-pass, pick-within}
@@ -44,41 +41,41 @@ module _ (w : List ℕ) (at : ℕ) (key : Key) where
 
 -- ---- find
 
-abbrev pub option_of : Child.Child → Option ℕ
-option_of (Child.TheVariants.At n) = some n
-option_of Child.TheVariants.Missing = none
+abbrev pub option_of : Option ℕ → Option ℕ
+option_of (Some n) = Some n
+option_of None = None
 
-child-option : (c : Child.Child) → child_of (option_of c) ≡ c
-child-option (Child.TheVariants.At n) = refl
-child-option Child.TheVariants.Missing = refl
+child-option : (c : Option ℕ) → (option_of c) ≡ c
+child-option (Some n) = refl
+child-option None = refl
 
 -- what is found among the records left, or else the best so far
-pub record Searched (w : List ℕ) (from end : ℕ) (key : Key) (at : ℕ) (best : Child.Child) : Type 0 where
+pub record Searched (w : List ℕ) (from end : ℕ) (key : Key) (at : ℕ) (best : Option ℕ) : Type 0 where
   pub low : at ≤ end
   pub same : pick_start key from (records_in from end w) ≡ or_else (pick_start key at (records_in at end w)) (option_of best)
 
-pub search-begin : (w : List ℕ) (from end : ℕ) (key : Key) → Within from end w → Searched w from end key from Child.TheVariants.Missing
+pub search-begin : (w : List ℕ) (from end : ℕ) (key : Key) → Within from end w → Searched w from end key from None
 search-begin w from end key b = record { low = b.order; same = sym (or-none _) }
 
 start-pass : (key : Key) (n : ℕ) (r : Words) (rs : List Words) → marks key r ≡ false → pick_start key n (r ∷ rs) ≡ pick_start key (n + 1) rs
 start-pass key n r rs e = rw (pick-pass (marks key) (which_by key.from_back) r rs e) (go (pick (which_by key.from_back) (marks key) rs))
   where
-    go : (o : Option ℕ) → and_then (map suc o) (λ i. some (n + i)) ≡ and_then o (λ i. some (n + 1 + i))
-    go none = refl
-    go (some i) = ap some (omega arith)
+    go : (o : Option ℕ) → and_then (option_map suc o) (λ i. Some (n + i)) ≡ and_then o (λ i. Some (n + 1 + i))
+    go None = refl
+    go (Some i) = ap Some (omega arith)
 
-start_first : (n : ℕ) (key : Key) (r : Words) (rs : List Words) → which_by key.from_back ≡ first → marks key r ≡ true → pick_start key n (r ∷ rs) ≡ some n
+start_first : (n : ℕ) (key : Key) (r : Words) (rs : List Words) → which_by key.from_back ≡ first → marks key r ≡ true → pick_start key n (r ∷ rs) ≡ Some n
 start_first n key r rs d e = rw (d, e, add-zero)
 
 start-last : (n : ℕ) (key : Key) (r : Words) (rs : List Words) (o : Option ℕ) → which_by key.from_back ≡ last → marks key r ≡ true
-    → or_else (pick_start key n (r ∷ rs)) o ≡ or_else (pick_start key (n + 1) rs) (some n)
+    → or_else (pick_start key n (r ∷ rs)) o ≡ or_else (pick_start key (n + 1) rs) (Some n)
 start-last n key r rs o d e = rw (d, e) (go (pick last (marks key) rs))
   where
-    go : (p : Option ℕ) → or_else (and_then (or_else (map suc p) (some 0)) (λ i. some (n + i))) o ≡ or_else (and_then p (λ i. some (n + 1 + i))) (some n)
-    go none = ap some (add-zero n)
-    go (some i) = ap some (omega arith)
+    go : (p : Option ℕ) → or_else (and_then (or_else (option_map suc p) (Some 0)) (λ i. Some (n + i))) o ≡ or_else (and_then p (λ i. Some (n + 1 + i))) (Some n)
+    go None = ap Some (add-zero n)
+    go (Some i) = ap Some (omega arith)
 
-module _ (w : List ℕ) (from end : ℕ) (key : Key) (at : ℕ) (best : Child.Child) (s : Searched w from end key at best) (l : at < end) where
+module _ (w : List ℕ) (from end : ℕ) (key : Key) (at : ℕ) (best : Option ℕ) (s : Searched w from end key at best) (l : at < end) where
   pub search-pass : (m : Bool) → m ≡ marks key (record_at at w) → m ≡ false → Searched w from end key (at + 1) best
   search-pass m d e =
       record {
@@ -86,25 +83,25 @@ module _ (w : List ℕ) (from end : ℕ) (key : Key) (at : ℕ) (best : Child.Ch
         same = s.same ∙ rw (records_in-cons w end at l, start-pass key at (record_at at w) (records_in (at + 1) end w) (sym d ∙ e));
       }
 
-  pub search-on : (m : Bool) → m ≡ marks key (record_at at w) → m ≡ true → key.from_back ≡ true → Searched w from end key (at + 1) (Child.TheVariants.At at)
+  pub search-on : (m : Bool) → m ≡ marks key (record_at at w) → m ≡ true → key.from_back ≡ true → Searched w from end key (at + 1) (Some at)
   search-on m d e f =
       record {
         low = omega arith;
         same = s.same ∙ rw (records_in-cons w end at l, start-last at key (record_at at w) (records_in (at + 1) end w) (option_of best) (ap which_by f) (sym d ∙ e));
       }
 
-  pub search-hit : (m : Bool) → m ≡ marks key (record_at at w) → m ≡ true → key.from_back ≡ false → Child.TheVariants.At at ≡ child_of (pick_start key from (records_in from end w))
+  pub search-hit : (m : Bool) → m ≡ marks key (record_at at w) → m ≡ true → key.from_back ≡ false → Some at ≡ pick_start key from (records_in from end w)
   search-hit m d e f =
-      let q : pick_start key from (records_in from end w) ≡ some at =
+      let q : pick_start key from (records_in from end w) ≡ Some at =
       s.same ∙ rw (records_in-cons w end at l, start_first at key (record_at at w) (records_in (at + 1) end w) (ap which_by f) (sym d ∙ e)) in
       rw q
 
-pub search-end : (w : List ℕ) (from end : ℕ) (key : Key) (at : ℕ) (best : Child.Child) → Searched w from end key at best → end ≤ at → best ≡ child_of (pick_start key from (records_in from end w))
+pub search-end : (w : List ℕ) (from end : ℕ) (key : Key) (at : ℕ) (best : Option ℕ) → Searched w from end key at best → end ≤ at → best ≡ pick_start key from (records_in from end w)
 search-end w from end key at best s l =
     let q : pick_start key from (records_in from end w) ≡ option_of best = s.same ∙ rw (records_in-nil w end at l) (go (which_by key.from_back)) in
     rw q (sym (child-option best))
   where
-    go : (v : Which) → or_else (and_then (pick v (marks key) []) (λ i. some (at + i))) (option_of best) ≡ option_of best
+    go : (v : Which) → or_else (and_then (pick v (marks key) []) (λ i. Some (at + i))) (option_of best) ≡ option_of best
     go first = refl
     go last = refl
 
@@ -113,25 +110,25 @@ search-end w from end key at best s l =
 -- the record found, by its offset
 pub record Met (key : Key) (from end : ℕ) (w : List ℕ) (at : ℕ) : Type 0 where
   pub offset : ℕ
-  pub there : pick (which_by key.from_back) (marks key) (records_in from end w) ≡ some offset
+  pub there : pick (which_by key.from_back) (marks key) (records_in from end w) ≡ Some offset
   pub number : from + offset ≡ at
   pub below : at < end
 
-module _ (w : List ℕ) (key : Key) (from end : ℕ) (r : Child.Child) (e : r ≡ child_of (pick_start key from (records_in from end w))) where
-  pub pick-missing : r ≡ Child.TheVariants.Missing → Span.TheVariants.Missing ≡ span_of (pick_span key from (records_in from end w))
+module _ (w : List ℕ) (key : Key) (from end : ℕ) (r : Option ℕ) (e : r ≡ pick_start key from (records_in from end w)) where
+  pub pick-missing : r ≡ None → None ≡ pick_span key from (records_in from end w)
   pick-missing m = go (pick (which_by key.from_back) (marks key) (records_in from end w)) (sym e ∙ m)
     where
-      go : (o : Option ℕ) → child_of (and_then o (λ i. some (from + i))) ≡ Child.TheVariants.Missing → Span.TheVariants.Missing ≡ span_of (and_then o (λ i. to_end key.kind (from + i) (drop (suc i) (records_in from end w))))
-      go none q = refl
-      go (some i) q = let z : ◌≡◌ {A = ℕ} 0 1 = cc in absurd (omega arith)
+      go : (o : Option ℕ) → (and_then o (λ i. Some (from + i))) ≡ None → None ≡ and_then o (λ i. to_end key.kind (from + i) (drop (suc i) (records_in from end w)))
+      go None q = refl
+      go (Some i) q = let z : ◌≡◌ {A = ℕ} 0 1 = cc in absurd (omega arith)
 
-  module _ (at : ℕ) (b : Within from end w) (m : r ≡ Child.TheVariants.At at) where
+  module _ (at : ℕ) (b : Within from end w) (m : r ≡ Some at) where
     met : Met key from end w at
     met = go (pick (which_by key.from_back) (marks key) (records_in from end w)) refl (sym e ∙ m)
       where
-        go : (o : Option ℕ) → pick (which_by key.from_back) (marks key) (records_in from end w) ≡ o → child_of (and_then o (λ i. some (from + i))) ≡ Child.TheVariants.At at → Met key from end w at
-        go none q p = let z : ◌≡◌ {A = ℕ} 0 1 = cc in absurd (omega arith)
-        go (some i) q p =
+        go : (o : Option ℕ) → pick (which_by key.from_back) (marks key) (records_in from end w) ≡ o → (and_then o (λ i. Some (from + i))) ≡ Some at → Met key from end w at
+        go None q p = let z : ◌≡◌ {A = ℕ} 0 1 = cc in absurd (omega arith)
+        go (Some i) q p =
             let n : from + i ≡ at = cc in
             record {
               offset = i;
@@ -143,7 +140,7 @@ module _ (w : List ℕ) (key : Key) (from end : ℕ) (r : Child.Child) (e : r �
     pub pick-after : Within (at + 1) end w
     pick-after = record { order = omega (arith, met.below); room = b.room }
 
-    pub pick_is : (stop : ℕ) → stop ≡ at + 1 + descendants key.kind (records_in (at + 1) end w) → Span.TheVariants.At at stop ≡ span_of (pick_span key from (records_in from end w))
+    pub pick_is : (stop : ℕ) → stop ≡ at + 1 + descendants key.kind (records_in (at + 1) end w) → (Some (at, stop)) ≡ pick_span key from (records_in from end w)
     pick_is stop f =
         let q : from + suc met.offset ≡ at + 1 = omega (arith, met.number) in
         let g : stop ≡ suc at + descendants key.kind (records_in (at + 1) end w) = f ∙ ap (λ (x : ℕ). x + descendants key.kind (records_in (at + 1) end w)) (add-one at) in
@@ -151,18 +148,18 @@ module _ (w : List ℕ) (key : Key) (from end : ℕ) (r : Child.Child) (e : r �
 
 -- ---- spot_of
 
-no_span : (o : Option (ℕ × ℕ)) → span_of o ≡ Span.TheVariants.Missing → o ≡ none
-no_span none e = refl
-no_span (some s) e = let z : ◌≡◌ {A = ℕ} 0 1 = cc in absurd (omega arith)
+no_span : (o : Option (ℕ × ℕ)) → o ≡ None → o ≡ None
+no_span None e = refl
+no_span (Some s) e = let z : ◌≡◌ {A = ℕ} 0 1 = cc in absurd (omega arith)
 
-module _ (w : List ℕ) (key : Key) (from end : ℕ) (r : Span.Span) (e : r ≡ span_of (pick_span key from (records_in from end w))) where
-  spot-missing : (keys : List Key) → r ≡ Span.TheVariants.Missing → spot_in (key ∷ keys) from end w ≡ (end, 0)
+module _ (w : List ℕ) (key : Key) (from end : ℕ) (r : Option (ℕ × ℕ)) (e : r ≡ pick_span key from (records_in from end w)) where
+  spot-missing : (keys : List Key) → r ≡ None → spot_in (key ∷ keys) from end w ≡ (end, 0)
   unfolding spot_in
   spot-missing keys m = rw (no_span (pick_span key from (records_in from end w)) (sym e ∙ m))
 
-  module _ (start stop : ℕ) (m : r ≡ Span.TheVariants.At start stop) where
-    spot-span : pick_span key from (records_in from end w) ≡ some (start, stop)
-    spot-span = at-span (pick_span key from (records_in from end w)) start stop (sym e ∙ m)
+  module _ (start stop : ℕ) (m : r ≡ Some (start, stop)) where
+    spot-span : pick_span key from (records_in from end w) ≡ Some (start, stop)
+    spot-span = (sym e ∙ m)
 
     spot-inside : Within from end w → SpanInside from end start stop
     spot-inside b = picked-inside w from end b key start stop spot-span
@@ -179,8 +176,8 @@ unfolding spot_in
 spot-none from end w = refl
 
 -- the spot of a chain that is missing, and one below a chain that stands
-module _ (w : List ℕ) (start end id : ℕ) (r : Span.Span) (e : r ≡ span_of (pick_span (chain_key id) (start + 1) (records_in (start + 1) end w))) where
-  lands-missing : r ≡ Span.TheVariants.Missing → Lands start end id w (record { at = end; depth = 0; chain = end; chain_end = end })
+module _ (w : List ℕ) (start end id : ℕ) (r : Option (ℕ × ℕ)) (e : r ≡ pick_span (chain_key id) (start + 1) (records_in (start + 1) end w)) where
+  lands-missing : r ≡ None → Lands start end id w (record { at = end; depth = 0; chain = end; chain_end = end })
   lands-missing m =
       record {
         depth = omega arith;
@@ -193,7 +190,7 @@ module _ (w : List ℕ) (start end id : ℕ) (r : Span.Span) (e : r ≡ span_of 
         residue = λ d. absurd (omega arith);
       }
 
-  lands-below : (chain stop : ℕ) → r ≡ Span.TheVariants.At chain stop → Within (start + 1) end w → (at depth : ℕ) → (1 ≤ depth) × (depth ≤ 3) → chain < at → at ≤ stop → (depth ≡ 1 → at ≡ stop)
+  lands-below : (chain stop : ℕ) → r ≡ Some (chain, stop) → Within (start + 1) end w → (at depth : ℕ) → (1 ≤ depth) × (depth ≤ 3) → chain < at → at ≤ stop → (depth ≡ 1 → at ≡ stop)
       → Lands start end id w (record { at = at; depth = depth; chain = chain; chain_end = stop })
   lands-below chain stop m b at depth d l u f =
       record {
@@ -212,11 +209,11 @@ abbrev Spots : ℕ → ℕ → ℕ → List Key → List ℕ → Spot.Spot → T
 Spots start end id keys w s = (found_of s ≡ spot_in (chain_key id ∷ keys) (start + 1) end w) × Lands start end id w s
 
 module _ (w : List ℕ) (start end id : ℕ) (residue_by conformer_by : Key) (b : Within (start + 1) end w)
-    (chains : Span.Span) (e₁ : chains ≡ span_of (pick_span (chain_key id) (start + 1) (records_in (start + 1) end w))) where
-  pub no-chain : chains ≡ Span.TheVariants.Missing → Spots start end id (residue_by ∷ conformer_by ∷ []) w (record { at = end; depth = 0; chain = end; chain_end = end })
+    (chains : Option (ℕ × ℕ)) (e₁ : chains ≡ pick_span (chain_key id) (start + 1) (records_in (start + 1) end w)) where
+  pub no-chain : chains ≡ None → Spots start end id (residue_by ∷ conformer_by ∷ []) w (record { at = end; depth = 0; chain = end; chain_end = end })
   no-chain m = (sym (spot-missing w _ _ _ chains e₁ _ m), lands-missing w start end id chains e₁ m)
 
-  module _ (chain chain-end : ℕ) (m₁ : chains ≡ Span.TheVariants.At chain chain-end) where
+  module _ (chain chain-end : ℕ) (m₁ : chains ≡ Some (chain, chain-end)) where
     residues-within : Within (chain + 1) chain-end w
     residues-within = spot-within w (chain_key id) _ _ chains e₁ chain chain-end m₁ b
 
@@ -228,24 +225,24 @@ module _ (w : List ℕ) (start end id : ℕ) (residue_by conformer_by : Key) (b 
     below_chain at n f k l u g =
         (sym (spot_on w _ _ _ chains e₁ chain chain-end m₁ _ at n f), lands-below w start end id chains e₁ chain chain-end m₁ b at (suc n) (omega arith, omega arith) l u g)
 
-    module _ (residues : Span.Span) (e₂ : residues ≡ span_of (pick_span residue_by (chain + 1) (records_in (chain + 1) chain-end w))) where
-      pub no-residue : residues ≡ Span.TheVariants.Missing → Spots start end id (residue_by ∷ conformer_by ∷ []) w (spotted chain-end 1)
+    module _ (residues : Option (ℕ × ℕ)) (e₂ : residues ≡ pick_span residue_by (chain + 1) (records_in (chain + 1) chain-end w)) where
+      pub no-residue : residues ≡ None → Spots start end id (residue_by ∷ conformer_by ∷ []) w (spotted chain-end 1)
       no-residue m = below_chain chain-end 0 (spot-missing w _ _ _ residues e₂ _ m) (omega arith) (omega (arith, residues-within.order)) (omega arith) (λ d. refl)
 
-      module _ (residue residue-end : ℕ) (m₂ : residues ≡ Span.TheVariants.At residue residue-end) where
+      module _ (residue residue-end : ℕ) (m₂ : residues ≡ Some (residue, residue-end)) where
         conformers-within : Within (residue + 1) residue-end w
         conformers-within = spot-within w residue_by _ _ residues e₂ residue residue-end m₂ residues-within
 
         inside : SpanInside (chain + 1) chain-end residue residue-end
         inside = spot-inside w residue_by _ _ residues e₂ residue residue-end m₂ residues-within
 
-        module _ (conformers : Span.Span) (e₃ : conformers ≡ span_of (pick_span conformer_by (residue + 1) (records_in (residue + 1) residue-end w))) where
-          pub no-conformer : conformers ≡ Span.TheVariants.Missing → Spots start end id (residue_by ∷ conformer_by ∷ []) w (spotted residue-end 2)
+        module _ (conformers : Option (ℕ × ℕ)) (e₃ : conformers ≡ pick_span conformer_by (residue + 1) (records_in (residue + 1) residue-end w)) where
+          pub no-conformer : conformers ≡ None → Spots start end id (residue_by ∷ conformer_by ∷ []) w (spotted residue-end 2)
           no-conformer m =
               below_chain residue-end 1 (spot_on w _ _ _ residues e₂ residue residue-end m₂ _ _ _ (spot-missing w _ _ _ conformers e₃ _ m)) (omega arith)
               (omega (arith, inside.low, inside.order)) inside.high (λ d. absurd (omega arith))
 
-          pub all-stand : (conformer conformer-end : ℕ) → conformers ≡ Span.TheVariants.At conformer conformer-end → Spots start end id (residue_by ∷ conformer_by ∷ []) w (spotted conformer-end 3)
+          pub all-stand : (conformer conformer-end : ℕ) → conformers ≡ Some (conformer, conformer-end) → Spots start end id (residue_by ∷ conformer_by ∷ []) w (spotted conformer-end 3)
           all-stand conformer conformer-end m =
               let i = spot-inside w conformer_by _ _ conformers e₃ conformer conformer-end m conformers-within in
               below_chain conformer-end 2

@@ -1,9 +1,10 @@
 -- What a place says of a store: put to use, and kept by an addition. Assumes nothing.
+use Rattle.std.specs.Prelude.{None, Option, Some, Ok}
+use Rattle.machine.specs.Answer.{position}
 use Prim.Native.Nat.{ℕ, zero, suc, ◌+◌, ◌-◌, ◌*◌, ◌/◌, ◌≤◌, ◌<◌}
 use mathlib.Core.Path.{◌≡◌, refl, sym, ap, ◌∙◌}
 use mathlib.Core.Bool.{Bool, true, false, ◌&&◌}
 use mathlib.Core.List.{List, [], ◌∷◌, ◌++◌, append-nil}
-use mathlib.Core.Option.{Option, none, some}
 use native.Mathlib.Omega.{arith}
 use lib.ListN.{length, take, drop, get_or, length-append, length-drop}
 use lib.Seq.{take-append-add, drop-append-le, drop-append-add}
@@ -16,9 +17,8 @@ use Rattle.machine.specs.Edit.{new_chain, first, last, pick}
 use Rattle.laws.specs.Lists.{All, All-map, All-append, All-left, All-right, and_both}
 use Rattle.laws.specs.Grouped.{chunks-length}
 use Rattle.laws.specs.Layout.{read-parts}
-use Rattle.seek.specs.Seek.{held, Good, Within, record_at, records_in, descendants, child, child_span, span, span_of}
+use Rattle.seek.specs.Seek.{held, Good, Within, record_at, records_in, descendants, child, child_span, span}
 use Rattle.seek.proofs.Below.{chunks-take}
-use Rattle.seek.specs.declared.Span as Span
 use Rattle.insertion.specs.Pick.{marks, pick_span, chain_key, residue_key}
 use Rattle.insertion.specs.Cursor.{rank, Ranked, PointsInto, Valid, Lands, column, Grown, Advances}
 use Rattle.machine.specs.declared.PreparedAddition.{PreparedAddition}
@@ -45,22 +45,22 @@ all_three a b c h = let x = and_both (a && b) c h in let y = and_both a b x.0 in
 
 module _ (p : Cursor.Cursor) (w : List ℕ) (k : Valid p w) where
   pub model-known : (model : ℕ) → Good w → p.known && eqb p.model model ≡ true
-      → Span.TheVariants.At p.start p.model_end ≡ span_of (span (model ∷ []) (held w))
+      → Ok (p.start, p.model_end) ≡ position (span (model ∷ []) (held w))
   model-known model g h =
       let b = and_both p.known (eqb p.model model) h in
       let e : p.model ≡ model = eqb-true _ _ b.1 in
-      let f : span (model ∷ []) (held w) ≡ some (p.start, p.model_end) = sym (model-span w g model) ∙ rw (← e) (k b.0).model in
+      let f : span (model ∷ []) (held w) ≡ Some (p.start, p.model_end) = sym (model-span w g model) ∙ rw (← e) (k b.0).model in
       rw f
 
   pub chain-known : (start end id : ℕ) → ((p.known && eqb p.start start) && eqb p.model_end end) && eqb p.id id ≡ true
-      → Span.TheVariants.At p.chain p.chain_end ≡ span_of (pick_span (chain_key id) (start + 1) (records_in (start + 1) end w))
+      → (Some (p.chain, p.chain_end)) ≡ pick_span (chain_key id) (start + 1) (records_in (start + 1) end w)
   chain-known start end id h =
       let b = and_both ((p.known && eqb p.start start) && eqb p.model_end end) (eqb p.id id) h in
       let c = all_three p.known (eqb p.start start) (eqb p.model_end end) b.0 in
       let x : p.start ≡ start = eqb-true _ _ c.1 in
       let y : p.model_end ≡ end = eqb-true _ _ c.2 in
       let z : p.id ≡ id = eqb-true _ _ b.1 in
-      let e : pick_span (chain_key id) (start + 1) (records_in (start + 1) end w) ≡ some (p.chain, p.chain_end) = rw (← x, ← y, ← z) (k c.0).chain in
+      let e : pick_span (chain_key id) (start + 1) (records_in (start + 1) end w) ≡ Some (p.chain, p.chain_end) = rw (← x, ← y, ← z) (k c.0).chain in
       rw e
 
 unranked : (top serial code : ℕ) (r : Words) → top < rank serial → Ranked top r → marks (residue_key serial code) r ≡ false
@@ -81,7 +81,7 @@ module _ (p : Cursor.Cursor) (w : List ℕ) (k : Valid p w) (chain end serial co
   pub residue-room : p.residue * 12 + 12 ≤ length w
   residue-room = let c = same-chain in omega (arith, c.0.high, c.2, b.room)
 
-  pub residue-known : (m : Bool) → m ≡ marks (residue_key serial code) (record_at p.residue w) → m ≡ true → Span.TheVariants.At p.residue end ≡ span_of residues
+  pub residue-known : (m : Bool) → m ≡ marks (residue_key serial code) (record_at p.residue w) → m ≡ true → (Some (p.residue, end)) ≡ residues
   residue-known m d t =
       let c = same-chain in
       let kept = c.0 in
@@ -96,15 +96,15 @@ module _ (p : Cursor.Cursor) (w : List ℕ) (k : Valid p w) (chain end serial co
       let s = records_in-split w (chain + 1) end p.residue (omega arith) (omega arith) in
       let a = s.0 in
       let n = s.1 in
-      let o : pick last mark (a ++ (r ∷ rest)) ≡ some (length a) = pick-last mark a r rest (sym d ∙ t) (All-map (unmarked (residue_key serial code)) rest above) in
+      let o : pick last mark (a ++ (r ∷ rest)) ≡ Some (length a) = pick-last mark a r rest (sym d ∙ t) (All-map (unmarked (residue_key serial code)) rest above) in
       let j : suc (length a) ≡ length a + 1 = omega arith in
       let after : drop (suc (length a)) (a ++ (r ∷ rest)) ≡ rest = ap (λ (i : ℕ). drop i (a ++ (r ∷ rest))) j ∙ drop-append-add a (r ∷ rest) 1 in
-      let e : residues ≡ some (p.residue, end) =
+      let e : residues ≡ Some (p.residue, end) =
       rw s.2 (to-span 3 (chain + 1) (pick last mark (a ++ (r ∷ rest))) (a ++ (r ∷ rest)) p.residue end
       (record { offset = length a; there = o; number = omega arith; ends = rw (after, descendants-whole 3 rest above) (omega (arith, length-drop (p.residue + 1) (chunks end w), chunks-length end w)) })) in
       rw e
 
-  pub residue-new : (x : ℕ) → x ≡ rank serial → p.topped && ltb p.top x ≡ true → Span.TheVariants.Missing ≡ span_of residues
+  pub residue-new : (x : ℕ) → x ≡ rank serial → p.topped && ltb p.top x ≡ true → None ≡ residues
   residue-new x d t =
       let c = same-chain in
       let both = and_both p.topped (ltb p.top x) t in
@@ -180,7 +180,7 @@ kinds-new a (suc (suc (suc zero))) l = (omega arith, tt)
 kinds-new a (suc (suc (suc (suc d)))) l = absurd (omega arith)
 
 module _ (w w' : List ℕ) (a : PreparedAddition) (model start end : ℕ) (s : Spot.Spot) (good : Good w)
-    (m : child_span 1 model 0 (records_of w) ≡ some (start, end)) (l : Lands start end a.chain w s) (g : Grown s.at (drop s.depth (column a)) w w') where
+    (m : child_span 1 model 0 (records_of w) ≡ Some (start, end)) (l : Lands start end a.chain w s) (g : Grown s.at (drop s.depth (column a)) w w') where
   abbrev new : List Words
   new = drop s.depth (column a)
 
@@ -216,7 +216,7 @@ module _ (w w' : List ℕ) (a : PreparedAddition) (model start end : ℕ) (s : S
   all-records : end ≤ length (records_of w)
   all-records = model-bounds.high
 
-  model-kept : (stop : ℕ) → stop ≡ end + length new → child_span 1 model 0 (records_of w') ≡ some (start, stop)
+  model-kept : (stop : ℕ) → stop ≡ end + length new → child_span 1 model 0 (records_of w') ≡ Some (start, stop)
   model-kept stop q =
       let b = below-model in
       let h = high in
@@ -224,7 +224,7 @@ module _ (w w' : List ℕ) (a : PreparedAddition) (model start end : ℕ) (s : S
       rw (q, g.is) (span-put 1 0 (child 1 model) (child-front 1 model) g.front new g.back start end (new-kinds 1 (omega arith)) (rw g.was at m) (omega arith) (omega arith))
 
   chain-kept : 1 ≤ s.depth → (stop edge : ℕ) → stop ≡ end + length new → edge ≡ s.chain_end + length new
-      → pick_span (chain_key a.chain) (start + 1) (records_in (start + 1) stop w') ≡ some (s.chain, edge)
+      → pick_span (chain_key a.chain) (start + 1) (records_in (start + 1) stop w') ≡ Some (s.chain, edge)
   chain-kept d stop edge q r =
       let b = below-model in
       let i = g.number in
@@ -237,7 +237,7 @@ module _ (w w' : List ℕ) (a : PreparedAddition) (model start end : ℕ) (s : S
       rw (q, r, is)
       (span-put 2 (start + 1) (pick first (marks (chain_key a.chain))) (pick-front (marks (chain_key a.chain))) before new (later g end) s.chain s.chain_end (new-kinds 2 (omega arith)) (rw was at (l.chain d)) (omega arith) (omega arith))
 
-  chain-fresh : s.depth ≡ 0 → (stop : ℕ) → stop ≡ end + 4 → pick_span (chain_key a.chain) (start + 1) (records_in (start + 1) stop w') ≡ some (end, stop)
+  chain-fresh : s.depth ≡ 0 → (stop : ℕ) → stop ≡ end + 4 → pick_span (chain_key a.chain) (start + 1) (records_in (start + 1) stop w') ≡ Some (end, stop)
   unfolding words descendants
   chain-fresh d stop q =
       let b = below-model in
@@ -252,7 +252,7 @@ module _ (w w' : List ℕ) (a : PreparedAddition) (model start end : ℕ) (s : S
       let whole : new ++ later g end ≡ column a = rw (gone, col) in
       let put = records_in-put g end high all-records (start + 1) (omega arith) in
       let is : records_in (start + 1) stop w' ≡ before ++ column a = rw r (put ∙ ap (λ (rs : List Words). before ++ rs) whole) in
-      let none_before : pick first mark before ≡ none = rw was at (not_found 2 (start + 1) (pick first mark (records_in (start + 1) end w)) (records_in (start + 1) end w) (l.missing d)) in
+      let none_before : pick first mark before ≡ None = rw was at (not_found 2 (start + 1) (pick first mark (records_in (start + 1) end w)) (records_in (start + 1) end w) (l.missing d)) in
       let there = pick-fresh mark before (words 3 (new_chain a)) (drop 1 (column a)) none_before (rw (eq-eqb a.chain a.chain refl)) in
       let n₁ = length-drop (start + 1) g.front in
       let j : suc (length before) ≡ length before + 1 = omega arith in

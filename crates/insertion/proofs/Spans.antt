@@ -1,9 +1,9 @@
 -- Spans among records: how they change where records are put in, and their bounds. Assumes nothing.
+use Rattle.std.specs.Prelude.{None, Option, Some, option_map}
 use Prim.Native.Nat.{ℕ, zero, suc, ◌+◌, ◌-◌, ◌/◌, ◌≤◌, ◌<◌}
 use mathlib.Core.Path.{◌≡◌, refl, sym, ap, ◌∙◌}
 use mathlib.Core.Bool.{Bool, true, false, cond}
 use mathlib.Core.List.{List, [], ◌∷◌, ◌++◌, append-nil}
-use mathlib.Core.Option.{Option, none, some, map}
 use native.Mathlib.Omega.{arith}
 use lib.ListN.{length, take, drop, length-drop, take-append-drop}
 use lib.Seq.{drop-append-le, drop-drop, length-take-le}
@@ -30,30 +30,30 @@ module _ (h n : ℕ) where
 
   pub record Ended (c : Option ℕ) (rs : List Words) (start stop : ℕ) : Type 0 where
     pub offset : ℕ
-    pub there : c ≡ some offset
+    pub there : c ≡ Some offset
     pub number : n + offset ≡ start
     pub ends : suc start + descendants h (drop (suc offset) rs) ≡ stop
 
-  pub ended : (c : Option ℕ) (rs : List Words) (start stop : ℕ) → to_span c rs ≡ some (start, stop) → Ended c rs start stop
-  ended none rs start stop e = let z : ◌≡◌ {A = ℕ} 0 1 = cc in absurd (omega arith)
-  ended (some o) rs start stop e =
+  pub ended : (c : Option ℕ) (rs : List Words) (start stop : ℕ) → to_span c rs ≡ Some (start, stop) → Ended c rs start stop
+  ended None rs start stop e = let z : ◌≡◌ {A = ℕ} 0 1 = cc in absurd (omega arith)
+  ended (Some o) rs start stop e =
       let p : ◌≡◌ {A = ℕ × ℕ} (n + o, suc (n + o) + descendants h (drop (suc o) rs)) (start, stop) = cc in
       let x : n + o ≡ start = ap (λ (z : ℕ × ℕ). z.0) p in
       let y : suc (n + o) + descendants h (drop (suc o) rs) ≡ stop = ap (λ (z : ℕ × ℕ). z.1) p in
       record { offset = o; there = refl; number = x; ends = omega arith }
 
-  pub to-span : (c : Option ℕ) (rs : List Words) (start stop : ℕ) → Ended c rs start stop → to_span c rs ≡ some (start, stop)
+  pub to-span : (c : Option ℕ) (rs : List Words) (start stop : ℕ) → Ended c rs start stop → to_span c rs ≡ Some (start, stop)
   to-span c rs start stop e = rw (e.there, e.number, e.ends)
 
-  pub not_found : (c : Option ℕ) (rs : List Words) → to_span c rs ≡ none → c ≡ none
-  not_found none rs e = refl
-  not_found (some o) rs e = let z : ◌≡◌ {A = ℕ} 0 1 = cc in absurd (omega arith)
+  pub not_found : (c : Option ℕ) (rs : List Words) → to_span c rs ≡ None → c ≡ None
+  not_found None rs e = refl
+  not_found (Some o) rs e = let z : ◌≡◌ {A = ℕ} 0 1 = cc in absurd (omega arith)
 
 -- ---- records put in among others
 
-mapped : (c : Option ℕ) (o : ℕ) → map suc c ≡ some o → (q : ℕ) × (c ≡ some q) × (suc q ≡ o)
-mapped none o e = let z : ◌≡◌ {A = ℕ} 0 1 = cc in absurd (omega arith)
-mapped (some q) o e = (q, refl, cc)
+mapped : (c : Option ℕ) (o : ℕ) → option_map suc c ≡ Some o → (q : ℕ) × (c ≡ Some q) × (suc q ≡ o)
+mapped None o e = let z : ◌≡◌ {A = ℕ} 0 1 = cc in absurd (omega arith)
+mapped (Some q) o e = (q, refl, cc)
 
 descendants-new : (h : ℕ) (new rest : List Words) → All (λ r. h < kind r) new → descendants h (new ++ rest) ≡ descendants h rest + length new
 unfolding descendants
@@ -72,67 +72,67 @@ descendants-put h (r ∷ a) new b k l = go (ltb h (kind r)) l (descendants-put h
 
 -- a search that finds a record looks at none after it
 abbrev pub Fronted : (List Words → Option ℕ) → Type 0
-Fronted find = (a b c : List Words) (o : ℕ) → find (a ++ b) ≡ some o → o < length a → find (a ++ c) ≡ some o
+Fronted find = (a b c : List Words) (o : ℕ) → find (a ++ b) ≡ Some o → o < length a → find (a ++ c) ≡ Some o
 
 pub child-front : (h i : ℕ) → Fronted (child h i)
 unfolding child
 child-front h i [] b c o e l = absurd (omega arith)
 child-front h zero (r ∷ a) b c o e l = go (ltb (kind r) h) (eqb (kind r) h) e (child-front h zero a b c)
   where
-    go : (x y : Bool) → cond x none (cond y (some 0) (map suc (child h zero (a ++ b)))) ≡ some o
-        → ((q : ℕ) → child h zero (a ++ b) ≡ some q → q < length a → child h zero (a ++ c) ≡ some q)
-        → cond x none (cond y (some 0) (map suc (child h zero (a ++ c)))) ≡ some o
+    go : (x y : Bool) → cond x None (cond y (Some 0) (option_map suc (child h zero (a ++ b)))) ≡ Some o
+        → ((q : ℕ) → child h zero (a ++ b) ≡ Some q → q < length a → child h zero (a ++ c) ≡ Some q)
+        → cond x None (cond y (Some 0) (option_map suc (child h zero (a ++ c)))) ≡ Some o
     go true y e f = let z : ◌≡◌ {A = ℕ} 0 1 = cc in absurd (omega arith)
     go false true e f = e
-    go false false e f = let m = mapped (child h zero (a ++ b)) o e in let s = m.2 in rw (f m.0 m.1 (omega arith)) (ap some m.2)
+    go false false e f = let m = mapped (child h zero (a ++ b)) o e in let s = m.2 in rw (f m.0 m.1 (omega arith)) (ap Some m.2)
 child-front h (suc i) (r ∷ a) b c o e l = go (ltb (kind r) h) (eqb (kind r) h) e (child-front h i a b c) (child-front h (suc i) a b c)
   where
-    go : (x y : Bool) → cond x none (map suc (cond y (child h i (a ++ b)) (child h (suc i) (a ++ b)))) ≡ some o
-        → ((q : ℕ) → child h i (a ++ b) ≡ some q → q < length a → child h i (a ++ c) ≡ some q)
-        → ((q : ℕ) → child h (suc i) (a ++ b) ≡ some q → q < length a → child h (suc i) (a ++ c) ≡ some q)
-        → cond x none (map suc (cond y (child h i (a ++ c)) (child h (suc i) (a ++ c)))) ≡ some o
+    go : (x y : Bool) → cond x None (option_map suc (cond y (child h i (a ++ b)) (child h (suc i) (a ++ b)))) ≡ Some o
+        → ((q : ℕ) → child h i (a ++ b) ≡ Some q → q < length a → child h i (a ++ c) ≡ Some q)
+        → ((q : ℕ) → child h (suc i) (a ++ b) ≡ Some q → q < length a → child h (suc i) (a ++ c) ≡ Some q)
+        → cond x None (option_map suc (cond y (child h i (a ++ c)) (child h (suc i) (a ++ c)))) ≡ Some o
     go true y e f g = let z : ◌≡◌ {A = ℕ} 0 1 = cc in absurd (omega arith)
-    go false true e f g = let m = mapped (child h i (a ++ b)) o e in let s = m.2 in rw (f m.0 m.1 (omega arith)) (ap some m.2)
-    go false false e f g = let m = mapped (child h (suc i) (a ++ b)) o e in let s = m.2 in rw (g m.0 m.1 (omega arith)) (ap some m.2)
+    go false true e f g = let m = mapped (child h i (a ++ b)) o e in let s = m.2 in rw (f m.0 m.1 (omega arith)) (ap Some m.2)
+    go false false e f g = let m = mapped (child h (suc i) (a ++ b)) o e in let s = m.2 in rw (g m.0 m.1 (omega arith)) (ap Some m.2)
 
 module _ (p : Words → Bool) where
   pub pick-front : Fronted (pick first p)
   pick-front [] b c o e l = absurd (omega arith)
   pick-front (r ∷ a) b c o e l = go (p r) e (pick-front a b c)
     where
-      go : (x : Bool) → cond x (some 0) (map suc (pick first p (a ++ b))) ≡ some o
-          → ((q : ℕ) → pick first p (a ++ b) ≡ some q → q < length a → pick first p (a ++ c) ≡ some q)
-          → cond x (some 0) (map suc (pick first p (a ++ c))) ≡ some o
+      go : (x : Bool) → cond x (Some 0) (option_map suc (pick first p (a ++ b))) ≡ Some o
+          → ((q : ℕ) → pick first p (a ++ b) ≡ Some q → q < length a → pick first p (a ++ c) ≡ Some q)
+          → cond x (Some 0) (option_map suc (pick first p (a ++ c))) ≡ Some o
       go true e f = e
-      go false e f = let m = mapped (pick first p (a ++ b)) o e in let s = m.2 in rw (f m.0 m.1 (omega arith)) (ap some m.2)
+      go false e f = let m = mapped (pick first p (a ++ b)) o e in let s = m.2 in rw (f m.0 m.1 (omega arith)) (ap Some m.2)
 
   -- the first after those of which none is marked
-  pub pick-fresh : (a : List Words) (r : Words) (rest : List Words) → pick first p a ≡ none → p r ≡ true → pick first p (a ++ (r ∷ rest)) ≡ some (length a)
+  pub pick-fresh : (a : List Words) (r : Words) (rest : List Words) → pick first p a ≡ None → p r ≡ true → pick first p (a ++ (r ∷ rest)) ≡ Some (length a)
   pick-fresh [] r rest e m = rw m
   pick-fresh (x ∷ a) r rest e m = go (p x) e (pick-fresh a r rest)
     where
-      go : (b : Bool) → cond b (some 0) (map suc (pick first p a)) ≡ none → (pick first p a ≡ none → p r ≡ true → pick first p (a ++ (r ∷ rest)) ≡ some (length a))
-          → cond b (some 0) (map suc (pick first p (a ++ (r ∷ rest)))) ≡ some (suc (length a))
+      go : (b : Bool) → cond b (Some 0) (option_map suc (pick first p a)) ≡ None → (pick first p a ≡ None → p r ≡ true → pick first p (a ++ (r ∷ rest)) ≡ Some (length a))
+          → cond b (Some 0) (option_map suc (pick first p (a ++ (r ∷ rest)))) ≡ Some (suc (length a))
       go true e f = let z : ◌≡◌ {A = ℕ} 0 1 = cc in absurd (omega arith)
       go false e f = rw (f (unmapped (pick first p a) e) m)
         where
-          unmapped : (c : Option ℕ) → map suc c ≡ none → c ≡ none
-          unmapped none e = refl
-          unmapped (some q) e = let z : ◌≡◌ {A = ℕ} 0 1 = cc in absurd (omega arith)
+          unmapped : (c : Option ℕ) → option_map suc c ≡ None → c ≡ None
+          unmapped None e = refl
+          unmapped (Some q) e = let z : ◌≡◌ {A = ℕ} 0 1 = cc in absurd (omega arith)
 
   -- none of them is marked
-  pub pick-none : (a : List Words) → All (λ r. p r ≡ false) a → pick last p a ≡ none
+  pub pick-none : (a : List Words) → All (λ r. p r ≡ false) a → pick last p a ≡ None
   pick-none a k = ap (pick last p) (sym (append-nil a)) ∙ pick-over p last a [] k
 
   -- the last, after which none is marked
-  pub pick-last : (a : List Words) (r : Words) (rest : List Words) → p r ≡ true → All (λ x. p x ≡ false) rest → pick last p (a ++ (r ∷ rest)) ≡ some (length a)
+  pub pick-last : (a : List Words) (r : Words) (rest : List Words) → p r ≡ true → All (λ x. p x ≡ false) rest → pick last p (a ++ (r ∷ rest)) ≡ Some (length a)
   pick-last [] r rest m k = rw (pick-none rest k, m)
   pick-last (x ∷ a) r rest m k = rw (pick-last a r rest m k)
 
 module _ (h n : ℕ) (find : List Words → Option ℕ) (front : Fronted find) where
   -- records of a higher kind put in between a record and its descendants' end
-  pub span-put : (a new b : List Words) (start stop : ℕ) → All (λ r. h < kind r) new → to_span h n (find (a ++ b)) (a ++ b) ≡ some (start, stop)
-      → start < n + length a → n + length a ≤ stop → to_span h n (find (a ++ (new ++ b))) (a ++ (new ++ b)) ≡ some (start, stop + length new)
+  pub span-put : (a new b : List Words) (start stop : ℕ) → All (λ r. h < kind r) new → to_span h n (find (a ++ b)) (a ++ b) ≡ Some (start, stop)
+      → start < n + length a → n + length a ≤ stop → to_span h n (find (a ++ (new ++ b))) (a ++ (new ++ b)) ≡ Some (start, stop + length new)
   span-put a new b start stop k e l u =
       let d = ended h n (find (a ++ b)) (a ++ b) start stop e in
       let o = d.offset in
@@ -153,7 +153,7 @@ pub record SpanInside (from end start stop : ℕ) : Type 0 where
   pub high : stop ≤ end
 
 module _ (w : List ℕ) (from end : ℕ) (b : Within from end w) where
-  ended-inside : (h : ℕ) (c : Option ℕ) (start stop : ℕ) → ((o : ℕ) → c ≡ some o → from + o < end) → to_span h from c (records_in from end w) ≡ some (start, stop) → SpanInside from end start stop
+  ended-inside : (h : ℕ) (c : Option ℕ) (start stop : ℕ) → ((o : ℕ) → c ≡ Some o → from + o < end) → to_span h from c (records_in from end w) ≡ Some (start, stop) → SpanInside from end start stop
   ended-inside h c start stop f e =
       let d = ended h from c (records_in from end w) start stop e in
       let x = d.number in
@@ -164,13 +164,13 @@ module _ (w : List ℕ) (from end : ℕ) (b : Within from end w) where
       let t = end-within w (from + suc d.offset) end h (record { order = omega arith; room = b.room }) in
       record { low = omega arith; order = omega arith; high = omega arith }
 
-  pub picked-inside : (key : Key) (start stop : ℕ) → pick_span key from (records_in from end w) ≡ some (start, stop) → SpanInside from end start stop
+  pub picked-inside : (key : Key) (start stop : ℕ) → pick_span key from (records_in from end w) ≡ Some (start, stop) → SpanInside from end start stop
   picked-inside key start stop e =
       ended-inside key.kind (pick (which_by key.from_back) (marks key) (records_in from end w)) start stop
       (λ o q. omega (arith, b.order, pick-within (marks key) (which_by key.from_back) (records_in from end w) o q, length-drop from (chunks end w), chunks-length end w))
       e
 
-pub model-inside : (w : List ℕ) → Good w → (i start stop : ℕ) → child_span 1 i 0 (records_of w) ≡ some (start, stop) → SpanInside 0 (length (records_of w)) start stop
+pub model-inside : (w : List ℕ) → Good w → (i start stop : ℕ) → child_span 1 i 0 (records_of w) ≡ Some (start, stop) → SpanInside 0 (length (records_of w)) start stop
 model-inside w g i start stop e =
     let c = chunks-length (end w / 12) w in
     let l = (read-parts w (held w) g).low in

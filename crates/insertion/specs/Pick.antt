@@ -1,12 +1,10 @@
 -- The record below a parent that an addition looks for, and where its new records go. Assumes nothing.
-use Rattle.std.specs.Prelude.{ℕ, suc, ◌+◌, Bool, true, false, ◌&&◌, List, [], ◌∷◌, get_or, drop, eqb}
-use Rattle.std.proofs.Math.Option.{Option, none, some}
+use Rattle.std.specs.Prelude.{ℕ, suc, ◌+◌, Bool, true, false, ◌&&◌, List, [], ◌∷◌, get_or, drop, eqb, None, Option, Some}
 use Rattle.machine.specs.Lists.{and_then}
 use Rattle.machine.specs.Record.{Words, kind}
 use Rattle.machine.specs.Edit.{Which, first, last, pick}
 use Rattle.seek.specs.Seek.{records_in, to_end}
 use Rattle.machine.specs.declared.PreparedAddition.{PreparedAddition}
-use Rattle.insertion.specs.declared.Child as Child
 use Rattle.insertion.specs.declared.Key.{Key}
 use Rattle.insertion.specs.declared.Spot as Spot
 
@@ -23,14 +21,10 @@ abbrev pub at_pick : {A : Type 0} → Key → (ℕ → List Words → Option A) 
 at_pick key f n rs = and_then (pick (which_by key.from_back) (marks key) rs) (λ o. f (n + o) (drop (suc o) rs))
 
 abbrev pub pick_start : Key → ℕ → List Words → Option ℕ
-pick_start key n rs = at_pick key (λ m after. some m) n rs
+pick_start key n rs = at_pick key (λ m after. Some m) n rs
 
 abbrev pub pick_span : Key → ℕ → List Words → Option (ℕ × ℕ)
 pick_span key n rs = at_pick key (to_end key.kind) n rs
-
-abbrev pub child_of : Option ℕ → Child.Child
-child_of none = Child.TheVariants.Missing
-child_of (some n) = Child.TheVariants.At n
 
 -- "the FIRST chain with the trimmed id"; a chain's word 2 is 0
 abbrev pub chain_key : ℕ → Key
@@ -52,8 +46,8 @@ abbrev pub Found : Type 0
 Found = ℕ × ℕ
 
 abbrev pub spot_step : Option (ℕ × ℕ) → Found → (ℕ × ℕ → Found) → Found
-spot_step none s f = s
-spot_step (some p) s f = ((f p).0, suc (f p).1)
+spot_step None s f = s
+spot_step (Some p) s f = ((f p).0, suc (f p).1)
 
 -- "What is missing is appended": below the records from `from` up to `end`, one level for each key
 unfoldable pub spot_in : List Key → ℕ → ℕ → List ℕ → Found

@@ -4,12 +4,12 @@
 #![tactic(auto)]
 
 ghost use Rattle.std.specs.Prelude.{◌≡◌, false, [], ◌∷◌, ◌+◌, ◌*◌, ◌≤◌, length};
-ghost use Rattle.seek.specs.Seek.{Good, Within, held, record_at, records_in, span, span_of};
-ghost use Rattle.insertion.specs.Pick.{marks, pick_start, pick_span, child_of, chain_key, residue_key, conformer_key, keys_of, spot_in, found_of};
+ghost use Rattle.machine.specs.Answer.{position};
+ghost use Rattle.seek.specs.Seek.{Good, Within, held, record_at, records_in, span};
+ghost use Rattle.insertion.specs.Pick.{marks, pick_start, pick_span, chain_key, residue_key, conformer_key, keys_of, spot_in, found_of};
 ghost use Rattle.insertion.specs.Cursor.{rank, Valid, Lands, Advances};
 
-use machine::{PreparedAddition, Record};
-use seek::Span;
+use machine::{PreparedAddition, Record, Refusal};
 
 // ---- records by what marks them
 
@@ -35,44 +35,30 @@ fn is_marked(store: &[u64], at: usize, key: Key) -> bool
     store[at * Record::WIDTH + Record::SECOND] == key.second
 }
 
-// The number of a record.
-#[derive(Clone, Copy)]
-enum Child {
-    At(usize),
-    Missing,
-}
-
 // The record that the key finds among those from `from` up to `end`.
-fn find_child(store: &[u64], from: usize, end: usize, key: Key) -> Child
+fn find_child(store: &[u64], from: usize, end: usize, key: Key) -> Option<usize>
     requires { Within from end store.now }
-    ensures { result ≡ child_of (pick_start key from (records_in from end store.now)) }
+    ensures { result ≡ pick_start key from (records_in from end store.now) }
 {
-    let mut best = Child::Missing;
-    let mut at: usize = from;
-    while at < end {
+    let mut best = None;
+    for at in from..end {
         if is_marked(store, at, key) {
-            if key.from_back {
-                best = Child::At(at);
-                at += 1;
-            } else {
-                return Child::At(at);
+            if !key.from_back {
+                return Some(at);
             }
-        } else {
-            at += 1;
+            best = Some(at);
         }
     }
     best
 }
 
 // That record, with where its descendants end.
-fn pick_child(store: &[u64], from: usize, end: usize, key: Key) -> Span
+fn pick_child(store: &[u64], from: usize, end: usize, key: Key) -> Option<(usize, usize)>
     requires { Within from end store.now }
-    ensures { result ≡ span_of (pick_span key from (records_in from end store.now)) }
+    ensures { result ≡ pick_span key from (records_in from end store.now) }
 {
-    let Child::At(at) = find_child(store, from, end, key) else {
-        return Span::Missing;
-    };
-    Span::At(at, seek::end_of(store, at + 1, end, key.kind))
+    let at = find_child(store, from, end, key)?;
+    Some((at, seek::end_of(store, at + 1, end, key.kind)))
 }
 
 // ---- the cursor: where the previous addition went
@@ -131,26 +117,31 @@ fn highest(a: u64, b: u64) -> u64
 }
 
 // `locate` for a model.
-pub fn model_span(store: &[u64], cursor: Cursor, model: u64) -> Span
+pub fn model_span(store: &[u64], cursor: Cursor, model: u64) -> Result<(usize, usize), Refusal>
     requires good { Good store.now }
     requires valid { Valid cursor store.now }
-    ensures { result ≡ span_of (span (model ∷ []) (held store.now)) }
+    ensures { result ≡ position (span (model ∷ []) (held store.now)) }
 {
     if cursor.known & (cursor.model == model) {
-        return Span::At(cursor.start, cursor.model_end);
+        return Ok((cursor.start, cursor.model_end));
     }
-    let position = [model];
-    seek::locate(store, &position)
+    seek::locate(store, &[model])
 }
 
 // `pick_child` for the first chain with an id, in the model at `start`.
-fn chain_span(store: &[u64], cursor: Cursor, start: usize, end: usize, id: u64) -> Span
+fn chain_span(
+    store: &[u64],
+    cursor: Cursor,
+    start: usize,
+    end: usize,
+    id: u64,
+) -> Option<(usize, usize)>
     requires within { Within (start + 1) end store.now }
     requires valid { Valid cursor store.now }
-    ensures { result ≡ span_of (pick_span (chain_key id) (start + 1) (records_in (start + 1) end store.now)) }
+    ensures { result ≡ pick_span (chain_key id) (start + 1) (records_in (start + 1) end store.now) }
 {
     if cursor.known & (cursor.start == start) & (cursor.model_end == end) & (cursor.id == id) {
-        return Span::At(cursor.chain, cursor.chain_end);
+        return Some((cursor.chain, cursor.chain_end));
     }
     let key = Key {
         kind: Record::CHAIN,
@@ -169,10 +160,10 @@ fn residue_span(
     end: usize,
     serial: u64,
     code: u64,
-) -> Span
+) -> Option<(usize, usize)>
     requires within { Within (chain + 1) end store.now }
     requires valid { Valid cursor store.now }
-    ensures { result ≡ span_of (pick_span (residue_key serial code) (chain + 1) (records_in (chain + 1) end store.now)) }
+    ensures { result ≡ pick_span (residue_key serial code) (chain + 1) (records_in (chain + 1) end store.now) }
 {
     let key = Key {
         kind: Record::RESIDUE,
@@ -182,19 +173,25 @@ fn residue_span(
     };
     if cursor.known & (cursor.chain == chain) & (cursor.chain_end == end) {
         if is_marked(store, cursor.residue, key) {
-            return Span::At(cursor.residue, end);
+            return Some((cursor.residue, end));
         }
         if cursor.topped & (cursor.top < rank_of(serial)) {
-            return Span::Missing;
+            return None;
         }
     }
     pick_child(store, chain + 1, end, key)
 }
 
 // `pick_child` for the first conformer with a name and a location, in the residue at `residue`.
-fn conformer_span(store: &[u64], residue: usize, end: usize, name: u64, location: u64) -> Span
+fn conformer_span(
+    store: &[u64],
+    residue: usize,
+    end: usize,
+    name: u64,
+    location: u64,
+) -> Option<(usize, usize)>
     requires { Within (residue + 1) end store.now }
-    ensures { result ≡ span_of (pick_span (conformer_key name location) (residue + 1) (records_in (residue + 1) end store.now)) }
+    ensures { result ≡ pick_span (conformer_key name location) (residue + 1) (records_in (residue + 1) end store.now) }
 {
     let key = Key {
         kind: Record::CONFORMER,
@@ -235,7 +232,7 @@ pub fn spot_of(
         chain: end,
         chain_end: end,
     };
-    let Span::At(chain, chain_end) = chain_span(store, cursor, start, end, new.chain) else {
+    let Some((chain, chain_end)) = chain_span(store, cursor, start, end, new.chain) else {
         return spot;
     };
     spot.at = chain_end;
@@ -243,13 +240,13 @@ pub fn spot_of(
     spot.chain = chain;
     spot.chain_end = chain_end;
     let residues = residue_span(store, cursor, chain, chain_end, new.residue, new.code);
-    let Span::At(residue, residue_end) = residues else {
+    let Some((residue, residue_end)) = residues else {
         return spot;
     };
     spot.at = residue_end;
     spot.depth = 2;
     let conformers = conformer_span(store, residue, residue_end, new.conformer, new.location);
-    let Span::At(_, conformer_end) = conformers else {
+    let Some((_, conformer_end)) = conformers else {
         return spot;
     };
     spot.at = conformer_end;

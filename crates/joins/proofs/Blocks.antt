@@ -6,20 +6,10 @@ use native.Mathlib.Omega.{arith}
 use lib.ListN.{length, take, drop, length-append, take-append-drop}
 use lib.Seq.{take_at, drop_at, take-append-le, drop-append-le}
 use Rattle.machine.specs.Record.{Words}
-use Rattle.moves.specs.Over.{part, rotated}
-use Rattle.moves.proofs.Laws.{part_at, rest_at}
+use Rattle.moves.proofs.Laws.{rest_at, rotated-at}
 use Rattle.joins.specs.Join.{cut_turned}
 
 module _ {A : Type 0} where
-  exchanged : (p x y q : List A) (a m b : ℕ) → length p ≡ a → a + length x ≡ m → m + length y ≡ b → rotated a m b (p ++ (x ++ (y ++ q))) ≡ p ++ (y ++ (x ++ q))
-  unfolding rotated
-  exchanged p x y q a m b e f g =
-      let r = append_assoc p x (y ++ q) in
-      let l : length (p ++ x) ≡ m = rw length-append (omega arith) in
-      let s : part m b (p ++ (x ++ (y ++ q))) ≡ y = rw (← r) (part_at (p ++ x) y q m b l g) in
-      let t : drop b (p ++ (x ++ (y ++ q))) ≡ q = rw (← r) (rest_at (p ++ x) y q m b l g) in
-      rw (take_at p (x ++ (y ++ q)) a e, part_at p x (y ++ q) a m e f, s, t)
-
   -- a list in two ways, of which the second is cut later
   record Seam (x y p q : List A) : Type 0 where
     middle : List A
@@ -65,7 +55,7 @@ module _ (own : Words) (kids R R₁ X rest p q P Q : List Words) (gone qa qb : �
       let m : length P ≡ length (X ++ (kids ++ y)) = rw (length-append, length-append) (omega arith) in
       let r : P ++ Q ≡ X ++ (kids ++ (y ++ q)) = same-cut P (own ∷ kids) Q (X ++ (kids ++ y)) (own ∷ kids) q e m refl ∙ simp append_assoc in
       let w : take gone R ++ drop (suc gone) R ≡ X ++ (y ++ (kids ++ q)) = without ∙ rw front (append_assoc X y (kids ++ q)) in
-      rw (w, r) (sym (exchanged X y kids q qa gone (qb - 1) x-length (omega arith) (omega arith)))
+      rw (w, r) (sym (rotated-at X y kids q qa gone (qb - 1) x-length (omega arith) (omega arith)))
 
   turned-later : qa ≤ gone → length P ≡ gone + length kids → P ++ Q ≡ cut_turned gone qa gone (qb - 1) R
   turned-later l k =
@@ -80,7 +70,7 @@ module _ (own : Words) (kids R R₁ X rest p q P Q : List Words) (gone qa qb : �
       let e : P ++ ((own ∷ kids) ++ Q) ≡ p ++ ((own ∷ kids) ++ (y ++ (kids ++ rest))) = sym moved ∙ grown ∙ rw front (simp append_assoc) in
       let r : P ++ Q ≡ p ++ (y ++ (kids ++ rest)) = same-cut P (own ∷ kids) Q p (own ∷ kids) (y ++ (kids ++ rest)) e (omega arith) refl in
       let w : take gone R ++ drop (suc gone) R ≡ p ++ (kids ++ (y ++ rest)) = without ∙ ap (λ (z : List Words). p ++ (kids ++ z)) back in
-      rw (w, r) (sym (exchanged p kids y rest gone (qb - 1) (qa - 1) p-length (omega arith) (omega arith)))
+      rw (w, r) (sym (rotated-at p kids y rest gone (qb - 1) (qa - 1) p-length (omega arith) (omega arith)))
 
   turned-earlier : qb ≤ qa → length P ≡ gone → P ++ Q ≡ cut_turned gone gone (qb - 1) (qa - 1) R
   turned-earlier l k =

@@ -1,13 +1,13 @@
 -- A join at every level, by where its two branches stand among the records. Assumes nothing.
+use Rattle.std.specs.Prelude.{Err, None, Ok, Option, Some}
 use Prim.Native.Nat.{ℕ, zero, suc, ◌+◌, ◌-◌, ◌≤◌, ◌<◌}
 use mathlib.Core.Path.{◌≡◌, refl, sym, ap, ◌∙◌, subst}
 use mathlib.Core.Bool.{Bool, true, false}
 use mathlib.Core.List.{List, [], ◌∷◌, ◌++◌, append_assoc, append-nil}
-use mathlib.Core.Option.{Option, none, some}
 use native.Mathlib.Omega.{arith}
 use lib.ListN.{length, length-append}
 use Rattle.machine.specs.Lists.{sum, concat_map, same}
-use Rattle.machine.specs.Answer.{Result, ok, refused}
+use Rattle.machine.specs.Answer.{Result}
 use Rattle.machine.specs.Record.{Words, words}
 use Rattle.machine.specs.Store.{Branch, Machine, flat, records, atom_count, stored}
 use Rattle.machine.specs.Find.{size}
@@ -16,9 +16,8 @@ use Rattle.machine.specs.declared.Refusal.TheVariants.{NoPosition, JoinWithItsel
 use Rattle.laws.specs.Lists.{sum-append, concat_map-append, same_true, same_refl}
 use Rattle.laws.specs.Places.{Spot, replace-sum, atom-splits, flat-splits, branch_at-other}
 use Rattle.laws.specs.Places as places
-use Rattle.seek.specs.Seek.{span_at, span_on, span, span_of}
-use Rattle.seek.proofs.Laws.{at-span, Stands, stands, missing, Stood, span-some, spot-length, span-inj}
-use Rattle.seek.specs.declared.Span as Span
+use Rattle.seek.specs.Seek.{span_at, span_on, span}
+use Rattle.seek.proofs.Laws.{Stands, stands, missing, Stood, span-some, spot-length, span-inj}
 use Rattle.joins.specs.Join.{join_on, cut_turned}
 use Rattle.joins.proofs.Shift.{Apart, later, earlier, apart}
 use Rattle.joins.proofs.Blocks.{TurnedBlocks, turned}
@@ -36,18 +35,18 @@ pub record Ordered (p q p' q' n : ℕ) : Type 0 where
 pub record Joined {A : Type 0} (flats : A → List Words) (count : A → ℕ) (m : A) (p q p' q' : ℕ) (rs : List Words) (out : Result A) : Type 0 where
   pub ordered : Ordered p q p' q' (length (flats m))
   pub after : A
-  pub done : out ≡ ok after
+  pub done : out ≡ Ok after
   pub atoms : count after ≡ count m
   pub joined : flats after ≡ rs
 
 -- the checks in their order, 5 and 9, and then the join with the second behind the first or ahead of it
 pub record Rules {A : Type 0} (flats : A → List Words) (count : A → ℕ) (m : A) (s t : Option (ℕ × ℕ)) (out : Result A) : Type 0 where
-  pub no-first : span_of s ≡ Span.TheVariants.Missing → out ≡ refused NoPosition
-  pub no_second : span_of t ≡ Span.TheVariants.Missing → out ≡ refused NoPosition
-  pub itself : (pa qa pb qb : ℕ) → span_of s ≡ Span.TheVariants.At pa qa → span_of t ≡ Span.TheVariants.At pb qb → pa ≡ pb → out ≡ refused JoinWithItself
-  pub behind : (pa qa pb qb : ℕ) → span_of s ≡ Span.TheVariants.At pa qa → span_of t ≡ Span.TheVariants.At pb qb → pa < pb
+  pub no-first : s ≡ None → out ≡ Err NoPosition
+  pub no_second : t ≡ None → out ≡ Err NoPosition
+  pub itself : (pa qa pb qb : ℕ) → s ≡ Some (pa, qa) → t ≡ Some (pb, qb) → pa ≡ pb → out ≡ Err JoinWithItself
+  pub behind : (pa qa pb qb : ℕ) → s ≡ Some (pa, qa) → t ≡ Some (pb, qb) → pa < pb
       → Joined flats count m pa qa pb qb (cut_turned pb qa pb (qb - 1) (flats m)) out
-  pub ahead : (pa qa pb qb : ℕ) → span_of s ≡ Span.TheVariants.At pa qa → span_of t ≡ Span.TheVariants.At pb qb → pb < pa
+  pub ahead : (pa qa pb qb : ℕ) → s ≡ Some (pa, qa) → t ≡ Some (pb, qb) → pb < pa
       → Joined flats count m pb qb pa qa (cut_turned pb pb (qb - 1) (qa - 1) (flats m)) out
 
 -- ---- at one level, d levels down, whose branches have children of level j
@@ -66,25 +65,25 @@ module _ (d j : ℕ) (a b : List ℕ) (la : length a ≡ suc d) (lb : length b �
   abbrev result : Branch (suc j) → Branch (suc j) → List (Branch (up d (suc j)))
   result t u = replace_at d (suc j) b [] (grown t u)
 
-  refused-first : branch_at d (suc j) a m ≡ none → join_at d j a b m ≡ refused NoPosition
+  refused-first : branch_at d (suc j) a m ≡ None → join_at d j a b m ≡ Err NoPosition
   unfolding join_at
   refused-first e = rw e
 
-  refused-second : (o : Option (Branch (suc j))) → branch_at d (suc j) a m ≡ o → branch_at d (suc j) b m ≡ none → join_at d j a b m ≡ refused NoPosition
+  refused-second : (o : Option (Branch (suc j))) → branch_at d (suc j) a m ≡ o → branch_at d (suc j) b m ≡ None → join_at d j a b m ≡ Err NoPosition
   unfolding join_at
-  refused-second none e f = rw e
-  refused-second (some t) e f = rw (e, f)
+  refused-second None e f = rw e
+  refused-second (Some t) e f = rw (e, f)
 
-  module _ (t u : Branch (suc j)) (ta : branch_at d (suc j) a m ≡ some t) (ub : branch_at d (suc j) b m ≡ some u) where
-    refused-itself : same a b ≡ true → join_at d j a b m ≡ refused JoinWithItself
+  module _ (t u : Branch (suc j)) (ta : branch_at d (suc j) a m ≡ Some t) (ub : branch_at d (suc j) b m ≡ Some u) where
+    refused-itself : same a b ≡ true → join_at d j a b m ≡ Err JoinWithItself
     unfolding join_at
     refused-itself e = rw (ta, ub, e)
 
-    accepted : same a b ≡ false → join_at d j a b m ≡ ok (result t u)
+    accepted : same a b ≡ false → join_at d j a b m ≡ Ok (result t u)
     unfolding join_at
     accepted e = rw (ta, ub, e)
 
-    still : same a b ≡ false → branch_at d (suc j) b (grown t u) ≡ some u
+    still : same a b ≡ false → branch_at d (suc j) b (grown t u) ≡ Some u
     still e = branch_at-other d (suc j) a b (t.0, t.1 ++ u.1) m la lb e ∙ ub
 
     -- the atoms are the same
@@ -99,7 +98,7 @@ module _ (d j : ℕ) (a b : List ℕ) (la : length a ≡ suc d) (lb : length b �
   unfolding flat
   grown-flats t u s = s.is ((t.0, t.1 ++ u.1) ∷ []) ∙ rw (concat_map-append (flat j) t.1 u.1) (simp (append_assoc, append-nil))
 
-  module _ (pa qa pb qb : ℕ) (ea : span_at d (suc j) a 0 m ≡ some (pa, qa)) (eb : span_at d (suc j) b 0 m ≡ some (pb, qb)) where
+  module _ (pa qa pb qb : ℕ) (ea : span_at d (suc j) a 0 m ≡ Some (pa, qa)) (eb : span_at d (suc j) b 0 m ≡ Some (pb, qb)) where
     abbrev sa : Stands d (suc j) a 0 m pa qa
     sa = stands d (suc j) a 0 m pa qa ea
 
@@ -108,14 +107,14 @@ module _ (d j : ℕ) (a b : List ℕ) (la : length a ≡ suc d) (lb : length b �
 
     same_start : pa ≡ pb → same a b ≡ true
     same_start e =
-        let f : span_at d (suc j) b 0 m ≡ some (pa, qb) = rw e eb in
+        let f : span_at d (suc j) b 0 m ≡ Some (pa, qb) = rw e eb in
         let x = span-inj d (suc j) a b 0 m pa qa qb la lb ea f in
         rw x (same_refl b)
 
     other-start : (pa ≡ pb → ⊥) → (c : Bool) → same a b ≡ c → same a b ≡ false
     other-start h true e =
         let x = same_true a b e in
-        let f : span_at d (suc j) b 0 m ≡ some (pa, qa) = rw x at ea in
+        let f : span_at d (suc j) b 0 m ≡ Some (pa, qa) = rw x at ea in
         let p : ◌≡◌ {A = ℕ × ℕ} (pa, qa) (pb, qb) = cc in
         absurd (h (ap (λ (z : ℕ × ℕ). z.0) p))
     other-start h false e = e
@@ -153,7 +152,7 @@ module _ (d j : ℕ) (a b : List ℕ) (la : length a ≡ suc d) (lb : length b �
           (omega (arith, sb.first))
           (omega arith)
 
-      stood-first : (p q : ℕ) → span_at d (suc j) b 0 (grown sa.branch sb.branch) ≡ some (p, q) → length stood.spot.pre ≡ p
+      stood-first : (p q : ℕ) → span_at d (suc j) b 0 (grown sa.branch sb.branch) ≡ Some (p, q) → length stood.spot.pre ≡ p
       stood-first p q f =
           let n : ℕ = length stood.spot.pre in
           let g = stood.span in
@@ -199,19 +198,19 @@ module _ (d j : ℕ) (a b : List ℕ) (la : length a ≡ suc d) (lb : length b �
         no-first = λ e. refused-first (missing d (suc j) a 0 m e);
         no_second = λ e. refused-second (branch_at d (suc j) a m) refl (missing d (suc j) b 0 m e);
         itself = λ pa qa pb qb e f o.
-            let x = at-span _ pa qa e in
-            let y = at-span _ pb qb f in
+            let x = e in
+            let y = f in
             let s = sa pa qa pb qb x y in
             let t = sb pa qa pb qb x y in
             refused-itself s.branch t.branch s.there t.there (same_start pa qa pb qb x y o);
         behind = λ pa qa pb qb e f o.
-            let x = at-span _ pa qa e in
-            let y = at-span _ pb qb f in
+            let x = e in
+            let y = f in
             let n = other-start pa qa pb qb x y (λ z. omega arith) (same a b) refl in
             joined-behind pa qa pb qb x y n o (order pa qa pb qb x y n);
         ahead = λ pa qa pb qb e f o.
-            let x = at-span _ pa qa e in
-            let y = at-span _ pb qb f in
+            let x = e in
+            let y = f in
             let n = other-start pa qa pb qb x y (λ z. omega arith) (same a b) refl in
             joined-ahead pa qa pb qb x y n o (order pa qa pb qb x y n);
       }

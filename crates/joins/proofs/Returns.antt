@@ -1,24 +1,25 @@
 -- What `cut_turn` and each return of `join_at` give in the words of a good store. Assumes nothing.
+use Rattle.std.specs.Prelude.{Err, Ok, Some, IsErrAnd}
 use Prim.Native.Nat.{ℕ, ◌+◌, ◌-◌, ◌*◌, ◌≤◌, ◌<◌}
 use mathlib.Core.Path.{◌≡◌, sym, ap, ◌∙◌}
 use mathlib.Core.List.{List, ◌++◌}
 use native.Mathlib.Numerals.{add-one}
 use native.Mathlib.Omega.{arith}
 use lib.ListN.{length, take, drop, set, length-append, length-take, length-drop}
-use Rattle.machine.specs.Answer.{refused, edited_numbers}
+use Rattle.machine.specs.Answer.{Result, edited_numbers, position}
 use Rattle.machine.specs.Record.{Words}
 use Rattle.machine.specs.Store.{records, stored, laid, lay_out}
 use Rattle.machine.specs.Edit.{step_by}
+use Rattle.machine.specs.declared.Edited.{Edited}
 use Rattle.machine.specs.declared.Refusal.{Refusal}
 use Rattle.machine.specs.declared.Refusal.TheVariants.{NoPosition, JoinWithItself}
-use Rattle.machine.specs.declared.Edited as Edited
+use Rattle.laws.specs.Exits.{placed, exit-nowhere}
 use Rattle.laws.specs.Lists.{All-append}
 use Rattle.laws.specs.Grouped.{concat, twelve-words}
 use Rattle.laws.specs.Layout.{read_length, read-fit, fit_words, length-parts, lay_out-read}
 use Rattle.moves.specs.Over.{taken_out, rotated, Twelve}
 use Rattle.moves.proofs.Records.{twelve-take, twelve-drop, remove-laid, rotate-laid}
-use Rattle.seek.specs.Seek.{Good, held, span, span_of}
-use Rattle.seek.specs.declared.Span as Span
+use Rattle.seek.specs.Seek.{Good, held, span}
 use Rattle.joins.specs.Join.{join_on, join, cut_turned, Turns}
 use Rattle.joins.proofs.Laws.{Joined, join-rules}
 
@@ -62,35 +63,46 @@ turn-law w w₁ w₂ gone a m b count t c e f =
 
 -- ---- the returns of `join_at`
 
-answer-refused : (w a b : List ℕ) → Good w → (r : Refusal) → join_on (length a) a b (held w) ≡ refused r
-    → (edited_numbers (Edited.TheVariants.Refused r), w) ≡ step_by w (join a b)
+answer-refused : (w a b : List ℕ) → Good w → (r : Refusal) → join_on (length a) a b (held w) ≡ Err r
+    → (edited_numbers (Err r), w) ≡ step_by w (join a b)
 unfolding step_by
 answer-refused w a b g r e = rw (g, e)
 
 answer-joined : (w w' a b : List ℕ) → Good w → (p q p' q' : ℕ) (rs : List Words) → Joined records stored (held w) p q p' q' rs (join_on (length a) a b (held w))
-    → w' ≡ laid (length w) (concat rs) → (edited_numbers (Edited.TheVariants.Done 1 0), w') ≡ step_by w (join a b)
+    → w' ≡ laid (length w) (concat rs) → (edited_numbers (Ok (record { found = 1; removed = 0 })), w') ≡ step_by w (join a b)
 unfolding step_by lay_out
 answer-joined w w' a b g p q p' q' rs j e =
     let z : stored (held w) - stored j.after ≡ 0 = omega (arith, j.atoms) in
     rw (g, j.done, z, j.joined, e)
 
-pub no-first : (w a b : List ℕ) → Good w → (s : Span.Span) → 1 ≤ length a → length a ≤ 4 → length a ≡ length b → s ≡ span_of (span a (held w)) → s ≡ Span.TheVariants.Missing
-    → (edited_numbers (Edited.TheVariants.Refused NoPosition), w) ≡ step_by w (join a b)
-no-first w a b g s lo hi e f h = answer-refused w a b g NoPosition ((join-rules a b (held w) lo hi e).no-first (sym f ∙ h))
+-- a position that isn't there ends the call
+module _ (w a b : List ℕ) (g : Good w) (q : Result (ℕ × ℕ)) (y : Refusal) (r : Result Edited) (lo : 1 ≤ length a) (hi : length a ≤ 4) (e : length a ≡ length b)
+    (no : q ≡ Err y) (out : IsErrAnd r (λ x. x ≡ y)) where
+  pub no-first : q ≡ position (span a (held w)) → (edited_numbers r, w) ≡ step_by w (join a b)
+  no-first f =
+      let x = exit-nowhere (span a (held w)) q y r f no out in
+      rw x.1 (answer-refused w a b g NoPosition ((join-rules a b (held w) lo hi e).no-first x.0))
 
-pub no_second : (w a b : List ℕ) → Good w → (s : Span.Span) → 1 ≤ length a → length a ≤ 4 → length a ≡ length b → s ≡ span_of (span b (held w)) → s ≡ Span.TheVariants.Missing
-    → (edited_numbers (Edited.TheVariants.Refused NoPosition), w) ≡ step_by w (join a b)
-no_second w a b g s lo hi e f h = answer-refused w a b g NoPosition ((join-rules a b (held w) lo hi e).no_second (sym f ∙ h))
+  pub no_second : q ≡ position (span b (held w)) → (edited_numbers r, w) ≡ step_by w (join a b)
+  no_second f =
+      let x = exit-nowhere (span b (held w)) q y r f no out in
+      rw x.1 (answer-refused w a b g NoPosition ((join-rules a b (held w) lo hi e).no_second x.0))
 
 -- both are there
-module _ (w a b : List ℕ) (g : Good w) (s t : Span.Span) (pa qa pb qb : ℕ) (lo : 1 ≤ length a) (hi : length a ≤ 4) (e : length a ≡ length b)
-    (sa : s ≡ span_of (span a (held w))) (sb : t ≡ span_of (span b (held w))) (ta : s ≡ Span.TheVariants.At pa qa) (tb : t ≡ Span.TheVariants.At pb qb) where
-  pub itself : pa ≡ pb → (edited_numbers (Edited.TheVariants.Refused JoinWithItself), w) ≡ step_by w (join a b)
-  itself o = answer-refused w a b g JoinWithItself ((join-rules a b (held w) lo hi e).itself pa qa pb qb (sym sa ∙ ta) (sym sb ∙ tb) o)
+module _ (w a b : List ℕ) (g : Good w) (s t : Result (ℕ × ℕ)) (pa qa pb qb : ℕ) (lo : 1 ≤ length a) (hi : length a ≤ 4) (e : length a ≡ length b)
+    (sa : s ≡ position (span a (held w))) (sb : t ≡ position (span b (held w))) (ta : s ≡ Ok (pa, qa)) (tb : t ≡ Ok (pb, qb)) where
+  first-there : span a (held w) ≡ Some (pa, qa)
+  first-there = placed (span a (held w)) s (pa, qa) sa ta
+
+  second-there : span b (held w) ≡ Some (pb, qb)
+  second-there = placed (span b (held w)) t (pb, qb) sb tb
+
+  pub itself : pa ≡ pb → (edited_numbers (Err JoinWithItself), w) ≡ step_by w (join a b)
+  itself o = answer-refused w a b g JoinWithItself ((join-rules a b (held w) lo hi e).itself pa qa pb qb first-there second-there o)
 
   module _ (o : pa < pb) where
     behind : Joined records stored (held w) pa qa pb qb (cut_turned pb qa pb (qb - 1) (records (held w))) (join_on (length a) a b (held w))
-    behind = (join-rules a b (held w) lo hi e).behind pa qa pb qb (sym sa ∙ ta) (sym sb ∙ tb) o
+    behind = (join-rules a b (held w) lo hi e).behind pa qa pb qb first-there second-there o
 
     pub behind-second : 1 ≤ qb
     behind-second = omega (arith, behind.ordered.second)
@@ -101,12 +113,12 @@ module _ (w a b : List ℕ) (g : Good w) (s t : Span.Span) (pa qa pb qb : ℕ) (
         record { good = g; there = omega (arith, r.second, r.room); low = r.order; high = omega (arith, r.second); room = omega (arith, r.second, r.room) }
 
     pub behind-done : (w' : List ℕ) → w' ≡ laid (length w) (concat (cut_turned pb qa pb (qb - 1) (records (held w))))
-        → (edited_numbers (Edited.TheVariants.Done 1 0), w') ≡ step_by w (join a b)
+        → (edited_numbers (Ok (record { found = 1; removed = 0 })), w') ≡ step_by w (join a b)
     behind-done w' f = answer-joined w w' a b g pa qa pb qb _ behind f
 
   module _ (o : pa ≡ pb → ⊥) (l : pb ≤ pa) where
     ahead : Joined records stored (held w) pb qb pa qa (cut_turned pb pb (qb - 1) (qa - 1) (records (held w))) (join_on (length a) a b (held w))
-    ahead = (join-rules a b (held w) lo hi e).ahead pa qa pb qb (sym sa ∙ ta) (sym sb ∙ tb) (omega arith)
+    ahead = (join-rules a b (held w) lo hi e).ahead pa qa pb qb first-there second-there (omega arith)
 
     pub ahead-second : 1 ≤ qb
     ahead-second = omega (arith, ahead.ordered.first)
@@ -126,5 +138,5 @@ module _ (w a b : List ℕ) (g : Good w) (s t : Span.Span) (pa qa pb qb : ℕ) (
         }
 
     pub ahead-done : (w' : List ℕ) → w' ≡ laid (length w) (concat (cut_turned pb pb (qb - 1) (qa - 1) (records (held w))))
-        → (edited_numbers (Edited.TheVariants.Done 1 0), w') ≡ step_by w (join a b)
+        → (edited_numbers (Ok (record { found = 1; removed = 0 })), w') ≡ step_by w (join a b)
     ahead-done w' f = answer-joined w w' a b g pb qb pa qa _ ahead f

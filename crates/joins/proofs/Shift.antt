@@ -1,9 +1,9 @@
 -- Where a branch stands after another branch of its level has grown. Assumes nothing.
+use Rattle.std.specs.Prelude.{None, Option, Some}
 use Prim.Native.Nat.{ℕ, zero, suc, ◌+◌, ◌≤◌}
 use mathlib.Core.Path.{◌≡◌, refl, sym, ap}
 use mathlib.Core.Bool.{Bool, true, false, false≢true}
 use mathlib.Core.List.{List, [], ◌∷◌}
-use mathlib.Core.Option.{Option, none, some}
 use native.Mathlib.Omega.{arith}
 use lib.ListN.{length}
 use lib.Dec.{eqb}
@@ -18,7 +18,7 @@ use Rattle.laws.specs.Places as places
 use Rattle.seek.specs.Seek.{span_at}
 use Rattle.seek.proofs.Laws.{Stands, stands, spot-length}
 
-impossible : {A B : Type 0} {x : B} → ◌≡◌ {A = Option B} none (some x) → A
+impossible : {A B : Type 0} {x : B} → ◌≡◌ {A = Option B} None (Some x) → A
 impossible e = let z : ◌≡◌ {A = ℕ} 0 1 = cc in absurd (omega arith)
 
 -- ---- one index
@@ -26,15 +26,15 @@ impossible e = let z : ◌≡◌ {A = ℕ} 0 1 = cc in absurd (omega arith)
 -- numbered from further on
 record Moved (k l n g : ℕ) (ts : List (Branch k)) (w : ℕ × Branch k) : Type 0 where
   low : n ≤ w.0
-  number : nth l (numbered k (n + g) ts) ≡ some (w.0 + g, w.1)
+  number : nth l (numbered k (n + g) ts) ≡ Some (w.0 + g, w.1)
 
-moved : (k l n g : ℕ) (ts : List (Branch k)) (w : ℕ × Branch k) → nth l (numbered k n ts) ≡ some w → Moved k l n g ts w
+moved : (k l n g : ℕ) (ts : List (Branch k)) (w : ℕ × Branch k) → nth l (numbered k n ts) ≡ Some w → Moved k l n g ts w
 unfolding numbered
 moved k l n g [] w e = impossible e
 moved k zero n g (t ∷ ts) w e =
     let q : ◌≡◌ {A = ℕ × Branch k} (n, t) w = cc in
     let f : n ≡ w.0 = ap (λ (z : ℕ × Branch k). z.0) q in
-    record { low = omega arith; number = ap (λ (z : ℕ × Branch k). some (z.0 + g, z.1)) q }
+    record { low = omega arith; number = ap (λ (z : ℕ × Branch k). Some (z.0 + g, z.1)) q }
 moved k (suc l) n g (t ∷ ts) w e =
     let r = moved k l (n + size k t) g ts w e in
     let f : n + g + size k t ≡ n + size k t + g = omega arith in
@@ -42,12 +42,12 @@ moved k (suc l) n g (t ∷ ts) w e =
 
 -- the branch at l, with its number, where the one at i has g records more
 data Beside (k l n g : ℕ) (ts : List (Branch k)) (v w : ℕ × Branch k) : Type 0 where
-  behind : v.0 + size k v.1 ≤ w.0 → nth l (numbered k n ts) ≡ some (w.0 + g, w.1) → Beside k l n g ts v w
-  ahead : w.0 + size k w.1 ≤ v.0 → nth l (numbered k n ts) ≡ some w → Beside k l n g ts v w
+  behind : v.0 + size k v.1 ≤ w.0 → nth l (numbered k n ts) ≡ Some (w.0 + g, w.1) → Beside k l n g ts v w
+  ahead : w.0 + size k w.1 ≤ v.0 → nth l (numbered k n ts) ≡ Some w → Beside k l n g ts v w
 
 module _ (k g : ℕ) (f : Branch k → Branch k) where
   beside : (i l n : ℕ) (ts : List (Branch k)) (v w : ℕ × Branch k) → (i ≡ l → ⊥) → size k (f v.1) ≡ size k v.1 + g
-      → nth i (numbered k n ts) ≡ some v → nth l (numbered k n ts) ≡ some w → Beside k l n g (splice i (λ t. f t ∷ []) ts) v w
+      → nth i (numbered k n ts) ≡ Some v → nth l (numbered k n ts) ≡ Some w → Beside k l n g (splice i (λ t. f t ∷ []) ts) v w
   unfolding numbered
   beside i l n [] v w h s p q = impossible p
   beside zero zero n (t ∷ ts) v w h s p q = absurd (h refl)
@@ -69,17 +69,17 @@ module _ (k g : ℕ) (f : Branch k → Branch k) where
       again (ahead a b) = ahead a b
 
   -- the grown branch itself keeps its number
-  grown : (i n : ℕ) (ts : List (Branch k)) (v : ℕ × Branch k) → nth i (numbered k n ts) ≡ some v → nth i (numbered k n (splice i (λ t. f t ∷ []) ts)) ≡ some (v.0, f v.1)
+  grown : (i n : ℕ) (ts : List (Branch k)) (v : ℕ × Branch k) → nth i (numbered k n ts) ≡ Some v → nth i (numbered k n (splice i (λ t. f t ∷ []) ts)) ≡ Some (v.0, f v.1)
   unfolding numbered
   grown i n [] v e = impossible e
   grown zero n (t ∷ ts) v e =
       let q : ◌≡◌ {A = ℕ × Branch k} (n, t) v = cc in
-      ap (λ (z : ℕ × Branch k). some (z.0, f z.1)) q
+      ap (λ (z : ℕ × Branch k). Some (z.0, f z.1)) q
   grown (suc i) n (t ∷ ts) v e = grown i (n + size k t) ts v e
 
 -- ---- a position
 
-pair : (a b c d : ℕ) → ◌≡◌ {A = Option (ℕ × ℕ)} (some (a, b)) (some (c, d)) → (a ≡ c) × (b ≡ d)
+pair : (a b c d : ℕ) → ◌≡◌ {A = Option (ℕ × ℕ)} (Some (a, b)) (Some (c, d)) → (a ≡ c) × (b ≡ d)
 pair a b c d e =
     let p : ◌≡◌ {A = ℕ × ℕ} (a, b) (c, d) = cc in
     (ap (λ (z : ℕ × ℕ). z.0) p, ap (λ (z : ℕ × ℕ). z.1) p)
@@ -87,18 +87,18 @@ pair a b c d e =
 -- a position of one index is that index's branch
 record Here (j i n : ℕ) (ts : List (Branch j)) (a b : ℕ) : Type 0 where
   outer : ℕ × Branch j
-  there : nth i (numbered j n ts) ≡ some outer
+  there : nth i (numbered j n ts) ≡ Some outer
   first : outer.0 ≡ a
   last : outer.0 + size j outer.1 ≡ b
 
-here : (j i : ℕ) (is : List ℕ) (n : ℕ) (ts : List (Branch j)) (a b : ℕ) → span_at zero j (i ∷ is) n ts ≡ some (a, b) → Here j i n ts a b
+here : (j i : ℕ) (is : List ℕ) (n : ℕ) (ts : List (Branch j)) (a b : ℕ) → span_at zero j (i ∷ is) n ts ≡ Some (a, b) → Here j i n ts a b
 unfolding span_at
 here j i is n ts a b e =
-    let s = and-then (nth i (numbered j n ts)) (λ t. some (t.0, t.0 + size j t.1)) (a, b) e in
+    let s = and-then (nth i (numbered j n ts)) (λ t. Some (t.0, t.0 + size j t.1)) (a, b) e in
     let p = pair _ _ a b s.2 in
     record { outer = s.0; there = s.1; first = p.0; last = p.1 }
 
-span-moved : (d j : ℕ) (pos : List ℕ) (n g : ℕ) (ts : List (Branch (up d j))) (a b : ℕ) → span_at d j pos n ts ≡ some (a, b) → span_at d j pos (n + g) ts ≡ some (a + g, b + g)
+span-moved : (d j : ℕ) (pos : List ℕ) (n g : ℕ) (ts : List (Branch (up d j))) (a b : ℕ) → span_at d j pos n ts ≡ Some (a, b) → span_at d j pos (n + g) ts ≡ Some (a + g, b + g)
 unfolding span_at
 span-moved d j [] n g ts a b e = impossible e
 span-moved zero j (i ∷ is) n g ts a b e =
@@ -106,7 +106,7 @@ span-moved zero j (i ∷ is) n g ts a b e =
     let u = s.outer in
     let x : u.0 + g ≡ a + g = omega (arith, s.first) in
     let y : a + g + size j u.1 ≡ b + g = omega (arith, s.first, s.last) in
-    rw ((moved j i n g ts u s.there).number, x) (ap (λ (z : ℕ). some (a + g, z)) y)
+    rw ((moved j i n g ts u s.there).number, x) (ap (λ (z : ℕ). Some (a + g, z)) y)
 span-moved (suc d) j (i ∷ is) n g ts a b e =
     let s = and-then (nth i (numbered (suc (up d j)) n ts)) (λ t. span_at d j is (suc t.0) t.1.1) (a, b) e in
     let f : suc (s.0.0 + g) ≡ suc s.0.0 + g = omega arith in
@@ -114,19 +114,19 @@ span-moved (suc d) j (i ∷ is) n g ts a b e =
 
 -- how the branch at b stands to the one from pa up to qa, which has g records more than it had
 pub data Apart (d j : ℕ) (b : List ℕ) (n g : ℕ) (ts : List (Branch (up d j))) (pa qa pb qb : ℕ) : Type 0 where
-  later : qa ≤ pb → span_at d j b n ts ≡ some (pb + g, qb + g) → Apart d j b n g ts pa qa pb qb
-  earlier : qb ≤ pa → span_at d j b n ts ≡ some (pb, qb) → Apart d j b n g ts pa qa pb qb
+  later : qa ≤ pb → span_at d j b n ts ≡ Some (pb + g, qb + g) → Apart d j b n g ts pa qa pb qb
+  earlier : qb ≤ pa → span_at d j b n ts ≡ Some (pb, qb) → Apart d j b n g ts pa qa pb qb
 
 -- a position's records are among those of its first index's branch
 record Inside (d j i : ℕ) (is : List ℕ) (n : ℕ) (ts : List (Branch (suc (up d j)))) (a b : ℕ) : Type 0 where
   outer : ℕ × Branch (suc (up d j))
-  there : nth i (numbered (suc (up d j)) n ts) ≡ some outer
-  below : span_at d j is (suc outer.0) outer.1.1 ≡ some (a, b)
+  there : nth i (numbered (suc (up d j)) n ts) ≡ Some outer
+  below : span_at d j is (suc outer.0) outer.1.1 ≡ Some (a, b)
   stood : Stands d j is (suc outer.0) outer.1.1 a b
   low : outer.0 ≤ a
   high : b ≤ outer.0 + size (suc (up d j)) outer.1
 
-inside : (d j i : ℕ) (is : List ℕ) (n : ℕ) (ts : List (Branch (suc (up d j)))) (a b : ℕ) → span_at (suc d) j (i ∷ is) n ts ≡ some (a, b) → Inside d j i is n ts a b
+inside : (d j i : ℕ) (is : List ℕ) (n : ℕ) (ts : List (Branch (suc (up d j)))) (a b : ℕ) → span_at (suc d) j (i ∷ is) n ts ≡ Some (a, b) → Inside d j i is n ts a b
 unfolding span_at flat
 inside d j i is n ts a b e =
     let s = and-then (nth i (numbered (suc (up d j)) n ts)) (λ t. span_at d j is (suc t.0) t.1.1) (a, b) e in
@@ -153,7 +153,7 @@ rest-index : (i l : ℕ) (is ls : List ℕ) → same (i ∷ is) (l ∷ ls) ≡ f
 rest-index i l is ls h e = rw (eq-eqb i l e) at h
 
 pub apart : (d j : ℕ) (a b : List ℕ) (n g : ℕ) (ts : List (Branch (up d j))) (new : Branch j) (pa qa pb qb : ℕ) → length a ≡ suc d → length b ≡ suc d → same a b ≡ false
-    → pa + size j new ≡ qa + g → span_at d j a n ts ≡ some (pa, qa) → span_at d j b n ts ≡ some (pb, qb) → Apart d j b n g (replace_at d j a (new ∷ []) ts) pa qa pb qb
+    → pa + size j new ≡ qa + g → span_at d j a n ts ≡ Some (pa, qa) → span_at d j b n ts ≡ Some (pb, qb) → Apart d j b n g (replace_at d j a (new ∷ []) ts) pa qa pb qb
 unfolding span_at replace_at
 apart d j [] b n g ts new pa qa pb qb la lb h s p q = absurd (omega arith)
 apart d j (i ∷ is) [] n g ts new pa qa pb qb la lb h s p q = absurd (omega arith)
@@ -166,8 +166,8 @@ apart zero j (i ∷ []) (l ∷ []) n g ts new pa qa pb qb la lb h s p q = go (he
     settle v w (behind a b) =
         let x : w.outer.0 + g ≡ pb + g = omega (arith, w.first) in
         let y : pb + g + size j w.outer.1 ≡ qb + g = omega (arith, w.first, w.last) in
-        later (omega (arith, v.last, w.first)) (rw (b, x) (ap (λ (z : ℕ). some (pb + g, z)) y))
-    settle v w (ahead a b) = earlier (omega (arith, w.last, v.first)) (rw (b, w.last) (ap (λ (z : ℕ). some (z, qb)) w.first))
+        later (omega (arith, v.last, w.first)) (rw (b, x) (ap (λ (z : ℕ). Some (pb + g, z)) y))
+    settle v w (ahead a b) = earlier (omega (arith, w.last, v.first)) (rw (b, w.last) (ap (λ (z : ℕ). Some (z, qb)) w.first))
 
     go : Here j i n ts pa qa → Here j l n ts pb qb → Apart zero j (l ∷ []) n g (splice i (λ t. new ∷ []) ts) pa qa pb qb
     go v w = settle v w (beside j g (λ t. new) i l n ts v.outer w.outer (one_index i l h) (omega (arith, v.first, v.last)) v.there w.there)
@@ -181,7 +181,7 @@ apart (suc d) j (i ∷ is) (l ∷ ls) n g ts new pa qa pb qb la lb h s p q =
     after : List (Branch (suc (up d j)))
     after = splice i (λ t. put t ∷ []) ts
 
-    below : (v : Inside d j i is n ts pa qa) → nth l (numbered (suc (up d j)) n after) ≡ some (v.outer.0, put v.outer.1)
+    below : (v : Inside d j i is n ts pa qa) → nth l (numbered (suc (up d j)) n after) ≡ Some (v.outer.0, put v.outer.1)
         → Apart d j ls (suc v.outer.0) g (replace_at d j is (new ∷ []) v.outer.1.1) pa qa pb qb → Apart (suc d) j (l ∷ ls) n g after pa qa pb qb
     below v e (later a b) = later a (rw e b)
     below v e (earlier a b) = earlier a (rw e b)
@@ -193,14 +193,14 @@ apart (suc d) j (i ∷ is) (l ∷ ls) n g ts new pa qa pb qb la lb h s p q =
     other v w (ahead a b) = earlier (omega (arith, w.high, v.low)) (rw b w.below)
 
     go : Inside d j i is n ts pa qa → Inside d j l ls n ts pb qb → (c : Bool) → eqb i l ≡ c
-        → ((us : List (Branch (up d j))) (m : ℕ) → same is ls ≡ false → span_at d j is m us ≡ some (pa, qa) → span_at d j ls m us ≡ some (pb, qb)
+        → ((us : List (Branch (up d j))) (m : ℕ) → same is ls ≡ false → span_at d j is m us ≡ Some (pa, qa) → span_at d j ls m us ≡ Some (pb, qb)
         → Apart d j ls m g (replace_at d j is (new ∷ []) us) pa qa pb qb)
         → Apart (suc d) j (l ∷ ls) n g after pa qa pb qb
     go v w true c again =
         let e = eqb-true i l c in
         let u = v.outer in
-        let here : nth l (numbered (suc (up d j)) n ts) ≡ some u = rw (← e) v.there in
-        let f : span_at d j ls (suc u.0) u.1.1 ≡ some (pb, qb) = rw here at q in
+        let here : nth l (numbered (suc (up d j)) n ts) ≡ Some u = rw (← e) v.there in
+        let f : span_at d j ls (suc u.0) u.1.1 ≡ Some (pb, qb) = rw here at q in
         below v (rw (← e) (grown (suc (up d j)) g put i n ts u v.there)) (again u.1.1 (suc u.0) (rest-index i l is ls h e) v.below f)
     go v w false c again =
         other v w

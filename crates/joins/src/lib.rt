@@ -10,7 +10,6 @@ ghost use Rattle.seek.specs.Seek.{Good, held};
 ghost use Rattle.joins.specs.Join.{join, cut_turned, Turns};
 
 use machine::{Edited, Record, Refusal};
-use seek::Span;
 
 // The record `gone` goes; then the records from a to m and those from m to b change places.
 fn cut_turn(store: &mut [u64], gone: usize, a: usize, m: usize, b: usize)
@@ -36,24 +35,26 @@ fn cut_turn(store: &mut [u64], gone: usize, a: usize, m: usize, b: usize)
 
 // The children of the branch at `second` are put after those of the branch at `first`, and the record at `second` goes.
 // The positions' length gives the level: one index for models, four for conformers.
-pub fn join_at(store: &mut [u64], first: &[u64], second: &[u64]) -> Edited
+pub fn join_at(store: &mut [u64], first: &[u64], second: &[u64]) -> Result<Edited, Refusal>
     requires good { Good store.old }
     requires in_bounds { (1 ≤ length first.now) × (length first.now ≤ 4) × (length first.now ≡ length second.now) }
     ensures { (edited_numbers result, store.new) ≡ step_by store.old (join first.now second.now) }
 {
-    let Span::At(start, end) = seek::locate(store, first) else {
-        return Edited::Refused(Refusal::NoPosition);
-    };
-    let Span::At(from, to) = seek::locate(store, second) else {
-        return Edited::Refused(Refusal::NoPosition);
-    };
+    let (start, end) = seek::locate(store, first)?;
+    let (from, to) = seek::locate(store, second)?;
     if start == from {
-        return Edited::Refused(Refusal::JoinWithItself);
+        return Err(Refusal::JoinWithItself);
     }
     if start < from {
         cut_turn(store, from, end, from, to - 1);
-        return Edited::Done(1, 0);
+        return Ok(Edited {
+            found: 1,
+            removed: 0,
+        });
     }
     cut_turn(store, from, from, to - 1, end - 1);
-    Edited::Done(1, 0)
+    Ok(Edited {
+        found: 1,
+        removed: 0,
+    })
 }

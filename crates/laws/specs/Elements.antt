@@ -1,15 +1,15 @@
 -- A missing element that is set: from every start and for every tree the hits stay, or lose that atom. Assumes nothing.
-use Rattle.std.specs.Prelude.{ℕ, zero, suc, ◌+◌, Bool, cond, ◌⊎◌, List, [], ◌∷◌, ◌++◌, map, length, eqb}
+use Rattle.std.proofs.lemmas.Option.{same_Some}
+use Rattle.std.specs.Prelude.{ℕ, zero, suc, ◌+◌, Bool, cond, ◌⊎◌, List, [], ◌∷◌, ◌++◌, map, length, eqb, None, Ok, Option, Some}
 use Rattle.std.proofs.Math.Path.{◌≡◌, refl, sym}
 use Rattle.std.proofs.Common.{ap, ◌∙◌, inr, arith}
 use Rattle.std.proofs.Math.Bool.{true, false}
 use Rattle.std.proofs.Math.Logic.{inl}
 use Rattle.std.proofs.lemmas.List.{map-append}
-use Rattle.std.proofs.Math.Option.{Option, none, some, some-injective}
 use Rattle.std.proofs.Math.Dec.{leb}
 use borrow.Author.Tests.{leb-true, leb-false}
 use Rattle.machine.specs.Lists.{keep, filter, nth, concat_map_from}
-use Rattle.machine.specs.Answer.{Result, ok, ◌>>=◌, ◌>>◌, need, position}
+use Rattle.machine.specs.Answer.{Result, ◌>>=◌, ◌>>◌, need, position}
 use Rattle.machine.specs.Record.{Atom, is_element, read_out}
 use Rattle.machine.specs.Store.{Branch, Machine, flat}
 use Rattle.machine.specs.Kleene.{is_hit}
@@ -37,12 +37,12 @@ Knows names low a b = (p : Place) (term : Term) → term_value names (window low
 module _ (names : Names) (a : Atom) (e : ℕ) (missing : eqb a.element 0 ≡ true) where
   -- with the levels above as they are known in q
   abbrev known : Place → Bool → Atom → Place
-  known q b x = record { model = q.model; chain = q.chain; residue = q.residue; conformer = q.conformer; atom = only_if b (some x) }
+  known q b x = record { model = q.model; chain = q.chain; residue = q.residue; conformer = q.conformer; atom = only_if b (Some x) }
 
   abbrev filled : Atom
   filled = with_element e a
 
-  element-grows : (n : ℕ) → element_is n (some a) ⊑ element_is n (some filled)
+  element-grows : (n : ℕ) → element_is n (Some a) ⊑ element_is n (Some filled)
   element-grows n = rw missing tt
 
   -- an atom that isn't known tells nothing; of one that is, Element alone goes by the element
@@ -117,15 +117,15 @@ module _ (names : Names) (low : ℕ) (t : List ℕ) where
 
 -- from a start whose atoms these are, the hits afterwards stay or lose one
 abbrev pub Falls : List ℕ → Machine → Names → ℕ → List ℕ → List ℕ → List Site → Type 0
-Falls hit after names low t start atoms = (atoms' : List Site) × (atoms_from start after ≡ some atoms') × StaysOrLoses hit (hits_among names low t atoms) (hits_among names low t atoms')
+Falls hit after names low t start atoms = (atoms' : List Site) × (atoms_from start after ≡ Some atoms') × StaysOrLoses hit (hits_among names low t atoms) (hits_among names low t atoms')
 
-nth-atoms : (s : Site) (i n : ℕ) (ts : List (Branch 0)) (q : ℕ) (a : Atom) → nth i (numbered 0 n ts) ≡ some (q, a) → nth i (concat_map_from (size 0) (atoms_in 0 s) n ts) ≡ some (below 0 q a s)
+nth-atoms : (s : Site) (i n : ℕ) (ts : List (Branch 0)) (q : ℕ) (a : Atom) → nth i (numbered 0 n ts) ≡ Some (q, a) → nth i (concat_map_from (size 0) (atoms_in 0 s) n ts) ≡ Some (below 0 q a s)
 unfolding numbered atoms_in
 nth-atoms s i n [] q a e = let z : ◌≡◌ {A = ℕ} 0 1 = cc in absurd (omega arith)
-nth-atoms s zero n (t ∷ ts) q a e = let p : ◌≡◌ {A = ℕ × Atom} (n, t) (q, a) = cc in ap (λ (x : ℕ × Atom). some (below 0 x.0 x.1 s)) p
+nth-atoms s zero n (t ∷ ts) q a e = let p : ◌≡◌ {A = ℕ × Atom} (n, t) (q, a) = cc in ap (λ (x : ℕ × Atom). Some (below 0 x.0 x.1 s)) p
 nth-atoms s (suc i) n (t ∷ ts) q a e = nth-atoms s i (n + size 0 t) ts q a e
 
-module _ (m : Machine) (i c r f j : ℕ) (a : Atom) (there : branch_at 4 0 (i ∷ c ∷ r ∷ f ∷ j ∷ []) m ≡ some a) where
+module _ (m : Machine) (i c r f j : ℕ) (a : Atom) (there : branch_at 4 0 (i ∷ c ∷ r ∷ f ∷ j ∷ []) m ≡ Some a) where
   its : Sites 4 0 (i ∷ c ∷ r ∷ f ∷ j ∷ []) top 0 m a
   its = sites 4 0 (i ∷ c ∷ r ∷ f ∷ j ∷ []) top 0 m a there
 
@@ -133,7 +133,7 @@ module _ (m : Machine) (i c r f j : ℕ) (a : Atom) (there : branch_at 4 0 (i �
   pub atom_site : Site
   atom_site = below 0 its.number a its.site
 
-  pub under-conformer : (atoms : List Site) × (atoms_from (i ∷ c ∷ r ∷ f ∷ []) m ≡ some atoms) × (nth j atoms ≡ some atom_site)
+  pub under-conformer : (atoms : List Site) × (atoms_from (i ∷ c ∷ r ∷ f ∷ []) m ≡ Some atoms) × (nth j atoms ≡ Some atom_site)
   unfolding atom_site
   under-conformer = let p = its.above (i ∷ c ∷ r ∷ f ∷ []) j refl refl in (_, p.are, nth-atoms its.site j p.first p.branches its.number a p.there)
 
@@ -153,13 +153,13 @@ module _ (m : Machine) (i c r f j : ℕ) (a : Atom) (there : branch_at 4 0 (i �
         go true q = its.from start (leb-true (length start) 5 q) b refl
         go false q = let l = leb-false (length start) 5 q in inl (too-deep 4 top 0 start put (omega arith) ∙ sym (too-deep 4 top 0 start m (omega arith)))
 
-    put-hits : (t : List ℕ) (atoms : List Site) → atoms_from start m ≡ some atoms → Falls atom_site.numbers put names low t start atoms
+    put-hits : (t : List ℕ) (atoms : List Site) → atoms_from start m ≡ Some atoms → Falls atom_site.numbers put names low t start atoms
     unfolding atom_site
     put-hits t atoms e = go alike
       where
         go : Same → Falls atom_site.numbers put names low t start atoms
         go (inl q) = (atoms, q ∙ e, inl refl)
-        go (inr w) = (_, w.is, rw (some-injective _ _ (sym e ∙ w.was)) (swap-hits names low t w.pre w.post its.site its.number a b k))
+        go (inr w) = (_, w.is, rw (same_Some _ _ (sym e ∙ w.was)) (swap-hits names low t w.pre w.post its.site its.number a b k))
 
 -- ---- the call
 
@@ -170,13 +170,13 @@ module _ (n : ℕ) (m : Machine) (i c r f j e : ℕ) where
   -- an accepted call: the atom at the position, and what the machine is then
   pub record Filled (after : Machine) : Type 0 where
     pub atom : Atom
-    pub there : branch_at 4 0 pos m ≡ some atom
+    pub there : branch_at 4 0 pos m ≡ Some atom
     pub becomes : (after ≡ m) ⊎ ((eqb atom.element 0 ≡ true) × (after ≡ replace_at 4 0 pos (with_element e atom ∷ []) m))
 
   abbrev result : Bool → Bool → Atom → Result Change
-  result y z b = with_found ((need y BadValue >> ok (cond z (some (with_element e b)) none)) >>= λ o. ok (refielded 4 0 pos b o m))
+  result y z b = with_found ((need y BadValue >> Ok (cond z (Some (with_element e b)) None)) >>= λ o. Ok (refielded 4 0 pos b o m))
 
-  by_tests : (x : Change) (b : Atom) → branch_at 4 0 pos m ≡ some b → (y z : Bool) → eqb b.element 0 ≡ z → result y z b ≡ ok x → Filled x.after
+  by_tests : (x : Change) (b : Atom) → branch_at 4 0 pos m ≡ Some b → (y z : Bool) → eqb b.element 0 ≡ z → result y z b ≡ Ok x → Filled x.after
   by_tests x b h false z q k = let n : ◌≡◌ {A = ℕ} 0 1 = cc in absurd (omega arith)
   by_tests x b h true false q k =
       let d : ◌≡◌ {A = Change} (record { found = 0; after = m }) x = cc in
@@ -185,16 +185,16 @@ module _ (n : ℕ) (m : Machine) (i c r f j e : ℕ) where
       let d : ◌≡◌ {A = Change} (record { found = 1; after = replace_at 4 0 pos (with_element e b ∷ []) m }) x = cc in
       record { atom = b; there = h; becomes = inr (q, ap (λ (y : Change). y.after) (sym d)) }
 
-  pub filled-step : (x : Change) → machine_step n m (SetElement i c r f j e) ≡ ok x → Filled x.after
+  pub filled-step : (x : Change) → machine_step n m (SetElement i c r f j e) ≡ Ok x → Filled x.after
   unfolding machine_step set_at
   filled-step x k = go (branch_at 4 0 pos m) refl k
     where
-      go : (o : Option Atom) → branch_at 4 0 pos m ≡ o → with_found (position o >>= λ b. fill_in e b >>= λ u. ok (refielded 4 0 pos b u m)) ≡ ok x → Filled x.after
-      go none h q = let n : ◌≡◌ {A = ℕ} 0 1 = cc in absurd (omega arith)
-      go (some b) h q = by_tests x b h (is_element e) (eqb b.element 0) refl q
+      go : (o : Option Atom) → branch_at 4 0 pos m ≡ o → with_found (position o >>= λ b. fill_in e b >>= λ u. Ok (refielded 4 0 pos b u m)) ≡ Ok x → Filled x.after
+      go None h q = let n : ◌≡◌ {A = ℕ} 0 1 = cc in absurd (omega arith)
+      go (Some b) h q = by_tests x b h (is_element e) (eqb b.element 0) refl q
 
   -- the hits after it
-  pub filled-hits : (after : Machine) (x : Filled after) (names : Names) (low : ℕ) (t start : List ℕ) (atoms : List Site) → atoms_from start m ≡ some atoms
+  pub filled-hits : (after : Machine) (x : Filled after) (names : Names) (low : ℕ) (t start : List ℕ) (atoms : List Site) → atoms_from start m ≡ Some atoms
       → Falls (atom_site m i c r f j x.atom x.there).numbers after names low t start atoms
   filled-hits after x names low t start atoms u = go x.becomes
     where

@@ -1,7 +1,6 @@
 -- Laws of Kleene's tables. Assumes nothing.
-use Rattle.std.specs.Prelude.{◌≡◌, refl, Bool, true, ◌&&◌, ◌||◌}
+use Rattle.std.specs.Prelude.{◌≡◌, refl, Bool, true, ◌&&◌, ◌||◌, None, Option, Some}
 use Rattle.std.proofs.Common.{ap, ◌∙◌}
-use Rattle.std.proofs.Math.Option.{Option, none, some}
 use Rattle.machine.specs.Kleene.{decided, not_t, and_t, or_t, apply_t, is_hit, is_undecided}
 use Rattle.machine.specs.declared.Tri.{Tri}
 use Rattle.machine.specs.declared.Tri.TheVariants.{False, True, Undecided}
@@ -80,5 +79,5 @@ apply-grows Xor True x b y h k = rw h (not-grows b y k)
 -- ---- what may be known of a test
 
 abbrev pub to_tri : Option Bool → Tri
-to_tri none = Undecided
-to_tri (some b) = decided b
+to_tri None = Undecided
+to_tri (Some b) = decided b

@@ -1,13 +1,13 @@
 -- A machine and a store's words say the same: what is laid out is read back, and what is read is laid out again.
 -- Assumes nothing.
-use Rattle.std.specs.Prelude.{ℕ, zero, suc, ◌+◌, ◌-◌, ◌*◌, ◌/◌, ◌%◌, ◌≤◌, ◌<◌, ◌≡◌, refl, Bool, true, false, ◌&&◌, take, drop, leb, eqb}
+use Rattle.std.specs.Prelude.{ℕ, zero, suc, ◌+◌, ◌-◌, ◌*◌, ◌/◌, ◌%◌, ◌≤◌, ◌<◌, ◌≡◌, refl, Bool, true, false, ◌&&◌, take, drop, leb, eqb, Ok}
 use Rattle.std.proofs.Common.{sym, ap, ◌∙◌, arith, length-append, length-take, length-drop, take_at, take-suc, take_all, take-add, length-take-le, eqb-true, eq-eqb, leb-true, le-leb}
 use mathlib.Core.List.{List, [], ◌∷◌, ◌++◌, append_assoc}
 use Rattle.std.proofs.Math.ListN.{length, replicate}
 use Rattle.std.proofs.lemmas.List.{length-replicate, replicate-append-replicate, get_or_at}
 use Rattle.std.proofs.Math.Seq.{drop-append_seam}
 use Rattle.machine.specs.Lists.{all}
-use Rattle.machine.specs.Answer.{ok, ◌>>◌, need}
+use Rattle.machine.specs.Answer.{◌>>◌, need}
 use Rattle.machine.specs.Store.{Machine, records, laid, lay_out, good_length, end, gap, chunks, records_of, in_order, good_layout, group, read_store}
 use Rattle.machine.specs.declared.Refusal.{Refusal}
 use Rattle.machine.specs.declared.Refusal.TheVariants.{BadLength, BrokenLayout}
@@ -113,11 +113,11 @@ pub fit_words : (n : ℕ) (m : Machine) → good_length n ≡ true → Fit n m �
 fit_words n m h f = omega (arith, length-parts n h, f.room)
 
 -- a good machine that fits is read back
-pub read-lay_out : (n : ℕ) (m : Machine) → good_length n ≡ true → Fit n m → read_store (lay_out n m) ≡ ok m
+pub read-lay_out : (n : ℕ) (m : Machine) → good_length n ≡ true → Fit n m → read_store (lay_out n m) ≡ Ok m
 unfolding read_store
 read-lay_out n m h f =
     let fits = fit_words n m h f in
-    rw (parts-store (lay_out n m) (lay_out-parts n m fits f.good), records_of-lay_out n m fits, lay_out-length n m fits, h) (ap ok (group-flats 4 (omega arith) m))
+    rw (parts-store (lay_out n m) (lay_out-parts n m fits f.good), records_of-lay_out n m fits, lay_out-length n m fits, h) (ap Ok (group-flats 4 (omega arith) m))
 
 -- what opening writes is the empty machine
 pub open-empty : (n : ℕ) → good_length n ≡ true → replicate n 0 ≡ lay_out n []
@@ -149,12 +149,12 @@ laid-again w one p =
     let whole : take n w ++ (end w ∷ []) ≡ w = sym (take-suc w n 0 (omega arith)) ∙ take_all (suc n) w (omega arith) in
     rw (lb, ← append_assoc (take (end w) w), front) whole
 
-need-both : (a b : Bool) (p q : Refusal) (x y : Machine) → (need a p >> (need b q >> ok x)) ≡ ok y → (a ≡ true) × (b ≡ true) × (x ≡ y)
+need-both : (a b : Bool) (p q : Refusal) (x y : Machine) → (need a p >> (need b q >> Ok x)) ≡ Ok y → (a ≡ true) × (b ≡ true) × (x ≡ y)
 need-both true true p q x y h = (refl, refl, cc)
 need-both true false p q x y h = let z : ◌≡◌ {A = ℕ} 0 1 = cc in absurd (omega arith)
 need-both false b p q x y h = let z : ◌≡◌ {A = ℕ} 0 1 = cc in absurd (omega arith)
 
-module _ (w : List ℕ) (m : Machine) (h : read_store w ≡ ok m) where
+module _ (w : List ℕ) (m : Machine) (h : read_store w ≡ Ok m) where
   facts : (good_length (length w) ≡ true) × (good_layout w ≡ true) × (group 4 (records_of w) ≡ m)
   unfolding read_store
   facts = need-both (good_length (length w)) (good_layout w) BadLength BrokenLayout (group 4 (records_of w)) m h

@@ -1,3 +1,4 @@
+pub mod Exits
 pub mod Lists
 pub mod Counting
 pub mod Packing

@@ -1,9 +1,8 @@
 -- Laws of Bool tests, of what may be missing, and of lists, for the other laws. Assumes nothing.
-use Rattle.std.specs.Prelude.{ℕ, ◌+◌, ◌≡◌, refl, Bool, true, false, ◌&&◌, List, [], ◌∷◌, ◌++◌, map, length, eqb}
+use Rattle.std.specs.Prelude.{ℕ, ◌+◌, ◌≡◌, refl, Bool, true, false, ◌&&◌, List, [], ◌∷◌, ◌++◌, map, length, eqb, None, Option, Some}
 use Rattle.std.proofs.Common.{◌∙◌, append_assoc, arith, length-append, eqb-true, eq-eqb}
 use Rattle.std.proofs.lemmas.Bool.{false≢true}
 use Rattle.std.proofs.Math.Bool.{and_assoc}
-use Rattle.std.proofs.Math.Option.{Option, none, some}
 use Rattle.machine.specs.Lists.{all, sum, concat_map, and_then, same}
 
 pub and_both : (a b : Bool) → a && b ≡ true → (a ≡ true) × (b ≡ true)
@@ -27,13 +26,13 @@ pub same_refl : (xs : List ℕ) → same xs xs ≡ true
 same_refl [] = refl
 same_refl (x ∷ xs) = and-true (eq-eqb x x refl) (same_refl xs)
 
-pub and-then : {A B : Type 0} (o : Option A) (f : A → Option B) (y : B) → and_then o f ≡ some y → (x : A) × (o ≡ some x) × (f x ≡ some y)
-and-then none f y e = let z : ◌≡◌ {A = ℕ} 0 1 = cc in absurd (omega arith)
-and-then (some x) f y e = (x, refl, e)
+pub and-then : {A B : Type 0} (o : Option A) (f : A → Option B) (y : B) → and_then o f ≡ Some y → (x : A) × (o ≡ Some x) × (f x ≡ Some y)
+and-then None f y e = let z : ◌≡◌ {A = ℕ} 0 1 = cc in absurd (omega arith)
+and-then (Some x) f y e = (x, refl, e)
 
-pub then_never : {A B : Type 0} (o : Option A) (f : A → Option B) → ((x : A) → f x ≡ none) → and_then o f ≡ none
-then_never none f h = refl
-then_never (some x) f h = h x
+pub then_never : {A B : Type 0} (o : Option A) (f : A → Option B) → ((x : A) → f x ≡ None) → and_then o f ≡ None
+then_never None f h = refl
+then_never (Some x) f h = h x
 
 module _ {A : Type 0} where
   abbrev pub All : (A → Type 0) → List A → Type 0

@@ -1,10 +1,9 @@
 -- The record numbers of branches, and of the atoms among them: five to an atom, and the atoms' own rise. Assumes nothing.
 use Prim.Native.Nat.{ℕ, zero, suc, ◌+◌, ◌*◌, ◌≤◌, ◌<◌}
 use Rattle.std.proofs.Math.Path.{◌≡◌}
-use Rattle.std.specs.Prelude.{refl, Bool, length, get_or}
+use Rattle.std.specs.Prelude.{refl, Bool, length, get_or, None, Option, Some}
 use Rattle.std.proofs.Common.{sym, ap, ◌∙◌, subst, add-zero, add_assoc, arith, length-append}
 use mathlib.Core.List.{List, [], ◌∷◌, ◌++◌, map, map-append}
-use Rattle.std.proofs.Math.Option.{Option, none, some}
 use Rattle.std.proofs.lemmas.List.{length-map, get_or_at}
 use Rattle.machine.specs.Lists.{filter, sum, nth, splice, concat_map, concat_map_from}
 use Rattle.machine.specs.Record.{Fields}
@@ -20,18 +19,18 @@ use Rattle.laws.specs.Places.{Around, around, splice-self}
 -- ---- branches with their record numbers
 
 -- the i-th branch has the number of its first record; so has another in its place
-pub numbered-put : (k i n : ℕ) (f : Branch k → Branch k) (ts : List (Branch k)) (t : Branch k) (e : nth i ts ≡ some t)
-    → nth i (numbered k n (splice i (λ u. f u ∷ []) ts)) ≡ some (n + length (concat_map (flat k) (around i ts t e).before), f t)
+pub numbered-put : (k i n : ℕ) (f : Branch k → Branch k) (ts : List (Branch k)) (t : Branch k) (e : nth i ts ≡ Some t)
+    → nth i (numbered k n (splice i (λ u. f u ∷ []) ts)) ≡ Some (n + length (concat_map (flat k) (around i ts t e).before), f t)
 unfolding numbered around
 numbered-put k i n f [] t e = let z : ◌≡◌ {A = ℕ} 0 1 = cc in absurd (omega arith)
 numbered-put k zero n f (u ∷ ts) t e = let q : u ≡ t = cc in rw (add-zero, q)
 numbered-put k (suc i) n f (u ∷ ts) t e = numbered-put k i (n + size k u) f ts t e ∙ rw (length-append (flat k u), add_assoc)
 
-pub nth-numbered : (k i n : ℕ) (ts : List (Branch k)) (t : Branch k) (e : nth i ts ≡ some t) → nth i (numbered k n ts) ≡ some (n + length (concat_map (flat k) (around i ts t e).before), t)
+pub nth-numbered : (k i n : ℕ) (ts : List (Branch k)) (t : Branch k) (e : nth i ts ≡ Some t) → nth i (numbered k n ts) ≡ Some (n + length (concat_map (flat k) (around i ts t e).before), t)
 nth-numbered k i n ts t e = ap (λ (us : List (Branch k)). nth i (numbered k n us)) (sym (splice-self i ts t e)) ∙ numbered-put k i n (λ u. t) ts t e
 
 -- one of as many records moves no other
-pub numbered-other : (k i j n : ℕ) (f : Branch k → Branch k) (ts : List (Branch k)) (t : Branch k) → nth i ts ≡ some t → size k (f t) ≡ size k t → (i ≡ j → ⊥)
+pub numbered-other : (k i j n : ℕ) (f : Branch k → Branch k) (ts : List (Branch k)) (t : Branch k) → nth i ts ≡ Some t → size k (f t) ≡ size k t → (i ≡ j → ⊥)
     → nth j (numbered k n (splice i (λ u. f u ∷ []) ts)) ≡ nth j (numbered k n ts)
 unfolding numbered
 numbered-other k i j n f [] t e s h = refl
@@ -40,20 +39,20 @@ numbered-other k zero (suc j) n f (u ∷ ts) t e s h = let q : u ≡ t = cc in r
 numbered-other k (suc i) zero n f (u ∷ ts) t e s h = refl
 numbered-other k (suc i) (suc j) n f (u ∷ ts) t e s h = numbered-other k i j (n + size k u) f ts t e s (λ q. h (ap suc q))
 
-pub no-numbered : (k i n : ℕ) (ts : List (Branch k)) → nth i ts ≡ none → nth i (numbered k n ts) ≡ none
+pub no-numbered : (k i n : ℕ) (ts : List (Branch k)) → nth i ts ≡ None → nth i (numbered k n ts) ≡ None
 unfolding numbered
 no-numbered k i n [] e = refl
 no-numbered k zero n (t ∷ ts) e = let z : ◌≡◌ {A = ℕ} 0 1 = cc in absurd (omega arith)
 no-numbered k (suc i) n (t ∷ ts) e = no-numbered k i (n + size k t) ts e
 
 -- a branch that has a number stands behind those whose records come before its own
-pub numbered-at : (k i n : ℕ) (ts : List (Branch k)) (u : ℕ × Branch k) → nth i (numbered k n ts) ≡ some u
+pub numbered-at : (k i n : ℕ) (ts : List (Branch k)) (u : ℕ × Branch k) → nth i (numbered k n ts) ≡ Some u
     → (a : Around i ts u.1) × (u.0 ≡ n + length (concat_map (flat k) a.before))
 numbered-at k i n ts u e = go (nth i ts) refl
   where
     go : (o : Option (Branch k)) → nth i ts ≡ o → (a : Around i ts u.1) × (u.0 ≡ n + length (concat_map (flat k) a.before))
-    go none q = let f = no-numbered k i n ts q in let z : ◌≡◌ {A = ℕ} 0 1 = cc in absurd (omega arith)
-    go (some t) q =
+    go None q = let f = no-numbered k i n ts q in let z : ◌≡◌ {A = ℕ} 0 1 = cc in absurd (omega arith)
+    go (Some t) q =
         let f = nth-numbered k i n ts t q in
         let p : ◌≡◌ {A = ℕ × Branch k} (n + length (concat_map (flat k) (around i ts t q).before), t) u = cc in
         rw (← p) (around i ts t q, refl)
@@ -127,7 +126,7 @@ pub record Under (all : ℕ) (atoms : List Site) : Type 0 where
   pub are : atoms ≡ concat_map_from (size level) (atoms_in level site) number children
   pub few : length atoms ≤ all
 
-under_at : (k : ℕ) (s : Site) → length s.numbers + k ≡ 4 → (n : ℕ) (is : List ℕ) (ts : List (Branch k)) (atoms : List Site) → atoms_under k s n is ts ≡ some atoms → Under (sum (atom_count k) ts) atoms
+under_at : (k : ℕ) (s : Site) → length s.numbers + k ≡ 4 → (n : ℕ) (is : List ℕ) (ts : List (Branch k)) (atoms : List Site) → atoms_under k s n is ts ≡ Some atoms → Under (sum (atom_count k) ts) atoms
 unfolding atoms_under atom_count
 under_at k s d n [] ts atoms e =
     let q : atoms ≡ concat_map_from (size k) (atoms_in k s) n ts = cc in
@@ -149,11 +148,11 @@ under_at (suc k) s d n (i ∷ is) ts atoms e =
       few = omega (arith, ap (sum (atom_count (suc k))) a.was, sum-append (atom_count (suc k)) a.before (t.1 ∷ a.after));
     }
 
-pub under-start : (start : List ℕ) (m : Machine) (atoms : List Site) → atoms_from start m ≡ some atoms → Under (stored m) atoms
+pub under-start : (start : List ℕ) (m : Machine) (atoms : List Site) → atoms_from start m ≡ Some atoms → Under (stored m) atoms
 under-start start m atoms e = under_at 4 top refl 0 start m atoms e
 
 -- more indexes than there are levels above the atoms
-pub too-deep : (k : ℕ) (s : Site) (n : ℕ) (is : List ℕ) (ts : List (Branch k)) → k < length is → atoms_under k s n is ts ≡ none
+pub too-deep : (k : ℕ) (s : Site) (n : ℕ) (is : List ℕ) (ts : List (Branch k)) → k < length is → atoms_under k s n is ts ≡ None
 unfolding atoms_under
 too-deep k s n [] ts l = absurd (omega arith)
 too-deep zero s n (i ∷ is) ts l = refl
@@ -161,19 +160,19 @@ too-deep (suc k) s n (i ∷ is) ts l =
     then_never (nth i (numbered (suc k) n ts)) _ (λ t. too-deep k (below (suc k) t.0 t.1.0 s) (suc t.0) is t.1.1 (omega arith))
 
 -- with no index they are all
-pub whole-start : (m : Machine) → atoms_from [] m ≡ some (atoms_of m)
+pub whole-start : (m : Machine) → atoms_from [] m ≡ Some (atoms_of m)
 unfolding atoms_under atoms_of
 whole-start m = refl
 
 -- and always among all
 module _ (P : Site → Type 0) where
-  All-branch : (k i : ℕ) (f : ℕ → Branch k → List Site) (n : ℕ) (ts : List (Branch k)) (u : ℕ × Branch k) → nth i (numbered k n ts) ≡ some u → All P (concat_map_from (size k) f n ts) → All P (f u.0 u.1)
+  All-branch : (k i : ℕ) (f : ℕ → Branch k → List Site) (n : ℕ) (ts : List (Branch k)) (u : ℕ × Branch k) → nth i (numbered k n ts) ≡ Some u → All P (concat_map_from (size k) f n ts) → All P (f u.0 u.1)
   unfolding numbered
   All-branch k i f n [] u e a = let z : ◌≡◌ {A = ℕ} 0 1 = cc in absurd (omega arith)
   All-branch k zero f n (t ∷ ts) u e a = let q : ◌≡◌ {A = ℕ × Branch k} (n, t) u = cc in rw (← q) (All-left P (f n t) _ a)
   All-branch k (suc i) f n (t ∷ ts) u e a = All-branch k i f (n + size k t) ts u e (All-right P (f n t) _ a)
 
-  All-under : (k : ℕ) (s : Site) (n : ℕ) (is : List ℕ) (ts : List (Branch k)) (atoms : List Site) → atoms_under k s n is ts ≡ some atoms → All P (concat_map_from (size k) (atoms_in k s) n ts) → All P atoms
+  All-under : (k : ℕ) (s : Site) (n : ℕ) (is : List ℕ) (ts : List (Branch k)) (atoms : List Site) → atoms_under k s n is ts ≡ Some atoms → All P (concat_map_from (size k) (atoms_in k s) n ts) → All P atoms
   unfolding atoms_under atoms_in
   All-under k s n [] ts atoms e a = let q : concat_map_from (size k) (atoms_in k s) n ts ≡ atoms = cc in rw q at a
   All-under zero s n (i ∷ is) ts atoms e a = let z : ◌≡◌ {A = ℕ} 0 1 = cc in absurd (omega arith)
@@ -182,7 +181,7 @@ module _ (P : Site → Type 0) where
       let t = v.0 in
       All-under k (below (suc k) t.0 t.1.0 s) (suc t.0) is t.1.1 atoms v.2 (All-branch (suc k) i (atoms_in (suc k) s) n ts t v.1 a)
 
-  pub All-start : (start : List ℕ) (m : Machine) (atoms : List Site) → atoms_from start m ≡ some atoms → All P (atoms_of m) → All P atoms
+  pub All-start : (start : List ℕ) (m : Machine) (atoms : List Site) → atoms_from start m ≡ Some atoms → All P (atoms_of m) → All P atoms
   unfolding atoms_of
   All-start start m atoms e a = All-under 4 top 0 start m atoms e a
 

@@ -1,8 +1,7 @@
 -- Positions over the level: the branch at one, and what changes where it gives way to others. Assumes nothing.
-use Rattle.std.specs.Prelude.{ℕ, zero, suc, ◌+◌, ◌≡◌, refl, Bool, true, false, List, [], ◌∷◌, ◌++◌, length, eqb}
+use Rattle.std.specs.Prelude.{ℕ, zero, suc, ◌+◌, ◌≡◌, refl, Bool, true, false, List, [], ◌∷◌, ◌++◌, length, eqb, None, Option, Some, option_map}
 use Rattle.std.proofs.Common.{sym, ap, ◌∙◌, append_assoc, arith, eqb-true, eq-eqb}
 use Rattle.std.proofs.lemmas.Bool.{false≢true, eqb-false}
-use Rattle.std.proofs.Math.Option.{Option, none, some, map}
 use Rattle.machine.specs.Lists.{all, sum, concat_map, nth, splice, and_then, same}
 use Rattle.machine.specs.Record.{Fields, Words, words, good_fields}
 use Rattle.machine.specs.Store.{Branch, flat, atom_count}
@@ -20,7 +19,7 @@ module _ {A : Type 0} where
     pub was : xs ≡ before ++ (x ∷ after)
     pub is : (f : A → List A) → splice i f xs ≡ before ++ (f x ++ after)
 
-  unfoldable pub around : (i : ℕ) (xs : List A) (x : A) → nth i xs ≡ some x → Around i xs x
+  unfoldable pub around : (i : ℕ) (xs : List A) (x : A) → nth i xs ≡ Some x → Around i xs x
   around i [] x e = let z : ◌≡◌ {A = ℕ} 0 1 = cc in absurd (omega arith)
   around zero (y ∷ xs) x e = let q : y ≡ x = cc in record { before = []; after = xs; was = rw q; is = λ f. rw q }
   around (suc i) (y ∷ xs) x e =
@@ -28,7 +27,7 @@ module _ {A : Type 0} where
       record { before = y ∷ a.before; after = a.after; was = ap (λ (l : List A). y ∷ l) a.was; is = λ f. ap (λ (l : List A). y ∷ l) (a.is f) }
 
   -- what a list's sum gains and loses where an element gives way to a list
-  pub splice-sum : (μ : A → ℕ) (i : ℕ) (f : A → List A) (xs : List A) (x : A) → nth i xs ≡ some x
+  pub splice-sum : (μ : A → ℕ) (i : ℕ) (f : A → List A) (xs : List A) (x : A) → nth i xs ≡ Some x
       → sum μ (splice i f xs) + μ x ≡ sum μ xs + sum μ (f x)
   splice-sum μ i f xs x e =
       let a = around i xs x e in
@@ -44,17 +43,17 @@ module _ {A : Type 0} where
   splice_all p zero f g (x ∷ xs) h = let b = and_both (p x) (all p xs) h in all_append p (f x) xs (g x b.0) b.1
   splice_all p (suc i) f g (x ∷ xs) h = let b = and_both (p x) (all p xs) h in and-true b.0 (splice_all p i f g xs b.1)
 
-  pub splice-self : (i : ℕ) (xs : List A) (x : A) → nth i xs ≡ some x → splice i (λ y. x ∷ []) xs ≡ xs
+  pub splice-self : (i : ℕ) (xs : List A) (x : A) → nth i xs ≡ Some x → splice i (λ y. x ∷ []) xs ≡ xs
   splice-self i [] x h = refl
   splice-self zero (y ∷ ys) x h = let e : y ≡ x = cc in rw e
   splice-self (suc i) (y ∷ ys) x h = ap (λ (l : List A). y ∷ l) (splice-self i ys x h)
 
-  nth-all : (p : A → Bool) (i : ℕ) (xs : List A) (x : A) → nth i xs ≡ some x → all p xs ≡ true → p x ≡ true
+  nth-all : (p : A → Bool) (i : ℕ) (xs : List A) (x : A) → nth i xs ≡ Some x → all p xs ≡ true → p x ≡ true
   nth-all p i [] x e h = let z : ◌≡◌ {A = ℕ} 0 1 = cc in absurd (omega arith)
   nth-all p zero (y ∷ xs) x e h = let q : y ≡ x = cc in rw q at (and_both (p y) (all p xs) h).0
   nth-all p (suc i) (y ∷ xs) x e h = nth-all p i xs x e (and_both (p y) (all p xs) h).1
 
-  nth_here : (i : ℕ) (f : A → A) (xs : List A) → nth i (splice i (λ x. f x ∷ []) xs) ≡ map f (nth i xs)
+  nth_here : (i : ℕ) (f : A → A) (xs : List A) → nth i (splice i (λ x. f x ∷ []) xs) ≡ option_map f (nth i xs)
   nth_here i f [] = refl
   nth_here zero f (x ∷ xs) = refl
   nth_here (suc i) f (x ∷ xs) = nth_here i f xs
@@ -66,17 +65,17 @@ module _ {A : Type 0} where
   nth-other (suc i) zero f h (x ∷ xs) = refl
   nth-other (suc i) (suc k) f h (x ∷ xs) = nth-other i k f (λ e. h (ap suc e)) xs
 
-and-then-map : {A B : Type 0} (f : A → A) (g : A → Option B) → ((x : A) → g (f x) ≡ g x) → (o : Option A) → and_then (map f o) g ≡ and_then o g
-and-then-map f g h none = refl
-and-then-map f g h (some x) = h x
+and-then-map : {A B : Type 0} (f : A → A) (g : A → Option B) → ((x : A) → g (f x) ≡ g x) → (o : Option A) → and_then (option_map f o) g ≡ and_then o g
+and-then-map f g h None = refl
+and-then-map f g h (Some x) = h x
 
 -- the branch at the first index of a longer position, and the rest of the way
-pub step_down : (d j i : ℕ) (is : List ℕ) (ts : List (Branch (suc (up d j)))) (t : Branch j) → branch_at (suc d) j (i ∷ is) ts ≡ some t
-    → (u : Branch (suc (up d j))) × (nth i ts ≡ some u) × (branch_at d j is u.1 ≡ some t)
+pub step_down : (d j i : ℕ) (is : List ℕ) (ts : List (Branch (suc (up d j)))) (t : Branch j) → branch_at (suc d) j (i ∷ is) ts ≡ Some t
+    → (u : Branch (suc (up d j))) × (nth i ts ≡ Some u) × (branch_at d j is u.1 ≡ Some t)
 unfolding branch_at
 step_down d j i is ts t e = and-then (nth i ts) (λ u. branch_at d j is u.1) t e
 
-pub no-branch : (d j : ℕ) (ts : List (Branch (up d j))) (t : Branch j) → branch_at d j [] ts ≡ some t → ⊥
+pub no-branch : (d j : ℕ) (ts : List (Branch (up d j))) (t : Branch j) → branch_at d j [] ts ≡ Some t → ⊥
 unfolding branch_at
 no-branch d j ts t e = let z : ◌≡◌ {A = ℕ} 0 1 = cc in omega arith
 
@@ -118,7 +117,7 @@ same-measure μ zero f t = μ.alike f t
 same-measure μ (suc k) f t = μ.splits k (f, t.1) ∙ sym (μ.splits k t)
 
 -- what a measure gains and loses where a branch gives way to others
-pub replace-sum : (μ : Measure) (d j : ℕ) (pos : List ℕ) (new : List (Branch j)) (ts : List (Branch (up d j))) (t : Branch j) → branch_at d j pos ts ≡ some t
+pub replace-sum : (μ : Measure) (d j : ℕ) (pos : List ℕ) (new : List (Branch j)) (ts : List (Branch (up d j))) (t : Branch j) → branch_at d j pos ts ≡ Some t
     → sum (μ.of (up d j)) (replace_at d j pos new ts) + μ.of j t ≡ sum (μ.of (up d j)) ts + sum (μ.of j) new
 unfolding branch_at replace_at
 replace-sum μ d j [] new ts t e = absurd (no-branch d j ts t e)
@@ -168,7 +167,7 @@ replace-all (suc d) j (i ∷ is) new ts h g =
     h
 
 -- the branch at a position in a good list is good
-pub branch-good : (d j : ℕ) (pos : List ℕ) (ts : List (Branch (up d j))) (t : Branch j) → branch_at d j pos ts ≡ some t
+pub branch-good : (d j : ℕ) (pos : List ℕ) (ts : List (Branch (up d j))) (t : Branch j) → branch_at d j pos ts ≡ Some t
     → all (good_branch (up d j)) ts ≡ true → good_branch j t ≡ true
 unfolding branch_at
 branch-good d j [] ts t e h = absurd (no-branch d j ts t e)
@@ -186,7 +185,7 @@ pub record Spot (d j : ℕ) (pos : List ℕ) (ts : List (Branch (up d j))) (t : 
   pub was : concat_map (flat (up d j)) ts ≡ pre ++ (flat j t ++ post)
   pub is : (new : List (Branch j)) → concat_map (flat (up d j)) (replace_at d j pos new ts) ≡ pre ++ (concat_map (flat j) new ++ post)
 
-pub spot : (d j : ℕ) (pos : List ℕ) (ts : List (Branch (up d j))) (t : Branch j) → branch_at d j pos ts ≡ some t → Spot d j pos ts t
+pub spot : (d j : ℕ) (pos : List ℕ) (ts : List (Branch (up d j))) (t : Branch j) → branch_at d j pos ts ≡ Some t → Spot d j pos ts t
 unfolding branch_at replace_at flat
 spot d j [] ts t e = absurd (no-branch d j ts t e)
 spot zero j (i ∷ is) ts t e =

@@ -1,9 +1,8 @@
 -- The atoms from any start, where one branch gives way to another of as many records: those of that branch change, and no other. Assumes nothing.
-use Rattle.std.specs.Prelude.{ℕ, zero, suc, ◌+◌, ◌≤◌, ◌≡◌, refl, Bool, true, false, ◌⊎◌, length, eqb}
+use Rattle.std.specs.Prelude.{ℕ, zero, suc, ◌+◌, ◌≤◌, ◌≡◌, refl, Bool, true, false, ◌⊎◌, length, eqb, Option, Some}
 use Rattle.std.proofs.Common.{sym, ◌∙◌, inl, inr, arith, length-append, eqb-true}
 use Rattle.std.proofs.Math.Path.{ap}
 use mathlib.Core.List.{List, [], ◌∷◌, ◌++◌, append_assoc, append-nil}
-use Rattle.std.proofs.Math.Option.{Option, some}
 use Rattle.std.proofs.lemmas.Bool.{eqb-false}
 use Rattle.machine.specs.Lists.{nth, splice, concat_map, concat_map_from}
 use Rattle.machine.specs.Store.{Branch, flat}
@@ -28,15 +27,15 @@ concat_map_from-append k f n (x ∷ xs) ys =
 pub record Swapped (xs ys : List Site) (o p : Option (List Site)) : Type 0 where
   pub pre : List Site
   pub post : List Site
-  pub was : o ≡ some (pre ++ (xs ++ post))
-  pub is : p ≡ some (pre ++ (ys ++ post))
+  pub was : o ≡ Some (pre ++ (xs ++ post))
+  pub is : p ≡ Some (pre ++ (ys ++ post))
 
 -- or they stay, or there are none
 abbrev pub Alike : List Site → List Site → Option (List Site) → Option (List Site) → Type 0
 Alike xs ys o p = (p ≡ o) ⊎ Swapped xs ys o p
 
 -- the branch v at index i: its own number, the atoms before it, and those behind it where it has z records
-module _ (k : ℕ) (s : Site) (n i : ℕ) (ts : List (Branch k)) (v : Branch k) (e : nth i ts ≡ some v) where
+module _ (k : ℕ) (s : Site) (n i : ℕ) (ts : List (Branch k)) (v : Branch k) (e : nth i ts ≡ Some v) where
   abbrev number_of : ℕ
   number_of = n + length (concat_map (flat k) (around i ts v e).before)
 
@@ -61,14 +60,14 @@ module _ (k : ℕ) (s : Site) (n i : ℕ) (ts : List (Branch k)) (v : Branch k) 
         ∙ ap (λ (y : ℕ). front ++ (atoms_in k s number_of (f v) ++ back y)) z
 
 -- a start in another branch
-other-start : (k : ℕ) (s : Site) (n i : ℕ) (ts : List (Branch k)) (v : Branch k) → nth i ts ≡ some v → (f : Branch k → Branch k) → size k (f v) ≡ size k v
+other-start : (k : ℕ) (s : Site) (n i : ℕ) (ts : List (Branch k)) (v : Branch k) → nth i ts ≡ Some v → (f : Branch k → Branch k) → size k (f v) ≡ size k v
     → (h : ℕ) (hs : List ℕ) → (i ≡ h → ⊥) → atoms_under k s n (h ∷ hs) (splice i (λ u. f u ∷ []) ts) ≡ atoms_under k s n (h ∷ hs) ts
 unfolding atoms_under
 other-start zero s n i ts v e f z h hs q = refl
 other-start (suc k) s n i ts v e f z h hs q = rw (numbered-other (suc k) i h n f ts v e z q)
 
 -- from every start: what holds from the whole, and from the starts in the branch; under its siblings nothing changes
-module _ (k : ℕ) (s : Site) (n i : ℕ) (ts : List (Branch k)) (v : Branch k) (e : nth i ts ≡ some v) (f : Branch k → Branch k) (z : size k (f v) ≡ size k v) (xs ys : List Site) (d : ℕ) where
+module _ (k : ℕ) (s : Site) (n i : ℕ) (ts : List (Branch k)) (v : Branch k) (e : nth i ts ≡ Some v) (f : Branch k → Branch k) (z : size k (f v) ≡ size k v) (xs ys : List Site) (d : ℕ) where
   abbrev From : List ℕ → Type 0
   From start = Alike xs ys (atoms_under k s n start ts) (atoms_under k s n start (splice i (λ u. f u ∷ []) ts))
 
@@ -81,7 +80,7 @@ module _ (k : ℕ) (s : Site) (n i : ℕ) (ts : List (Branch k)) (v : Branch k) 
       go false q = inl (other-start k s n i ts v e f z h hs (eqb-false i h q))
 
 -- a start in the branch v at index i
-module _ (k : ℕ) (s : Site) (n i : ℕ) (ts : List (Branch (suc k))) (v : Branch (suc k)) (e : nth i ts ≡ some v) (f : Branch (suc k) → Branch (suc k)) where
+module _ (k : ℕ) (s : Site) (n i : ℕ) (ts : List (Branch (suc k))) (v : Branch (suc k)) (e : nth i ts ≡ Some v) (f : Branch (suc k) → Branch (suc k)) where
   abbrev inside : Branch (suc k) → List ℕ → Option (List Site)
   inside u hs = let q = number_of (suc k) s n i ts v e in atoms_under k (below (suc k) q u.0 s) (suc q) hs u.1
 
@@ -99,8 +98,8 @@ module _ (k : ℕ) (s : Site) (n i : ℕ) (ts : List (Branch (suc k))) (v : Bran
 pub record Above (j : ℕ) (site : Site) (number last : ℕ) (t : Branch j) (atoms : Option (List Site)) : Type 0 where
   pub first : ℕ
   pub branches : List (Branch j)
-  pub are : atoms ≡ some (concat_map_from (size j) (atoms_in j site) first branches)
-  pub there : nth last (numbered j first branches) ≡ some (number, t)
+  pub are : atoms ≡ Some (concat_map_from (size j) (atoms_in j site) first branches)
+  pub there : nth last (numbered j first branches) ≡ Some (number, t)
 
 -- the atoms of the branch t at a position stand in one place, from the whole and from every start no deeper than the position
 pub record Sites (d j : ℕ) (pos : List ℕ) (s : Site) (n : ℕ) (ts : List (Branch (up d j))) (t : Branch j) : Type 0 where
@@ -118,13 +117,13 @@ regroup : {A : Type 0} (a b c d e : List A) → a ++ ((b ++ (c ++ d)) ++ e) ≡ 
 regroup a b c d e = simp append_assoc
 
 -- a branch has as many records with a child, or a deeper one, for one of as many
-same_size : (d j : ℕ) (pos : List ℕ) (v : Branch (suc (up d j))) (t u : Branch j) → branch_at d j pos v.1 ≡ some t → size j u ≡ size j t
+same_size : (d j : ℕ) (pos : List ℕ) (v : Branch (suc (up d j))) (t u : Branch j) → branch_at d j pos v.1 ≡ Some t → size j u ≡ size j t
     → size (suc (up d j)) (v.0, replace_at d j pos (u ∷ []) v.1) ≡ size (suc (up d j)) v
 same_size d j pos v t u e h =
     omega (arith, flat-splits (up d j) v, flat-splits (up d j) (v.0, replace_at d j pos (u ∷ []) v.1), replace-sum Places.size d j pos (u ∷ []) v.1 t e)
 
 -- a start that ends at the branch has its atoms alone; below an atom there is none
-at-branch : (j : ℕ) (s : Site) (n i : ℕ) (ts : List (Branch j)) (t : Branch j) (e : nth i ts ≡ some t) (u : Branch j) (hs : List ℕ) → length hs ≤ 0
+at-branch : (j : ℕ) (s : Site) (n i : ℕ) (ts : List (Branch j)) (t : Branch j) (e : nth i ts ≡ Some t) (u : Branch j) (hs : List ℕ) → length hs ≤ 0
     → Alike (atoms_in j s (number_of j s n i ts t e) t) (atoms_in j s (number_of j s n i ts t e) u) (atoms_under j s n (i ∷ hs) ts) (atoms_under j s n (i ∷ hs) (splice i (λ v. u ∷ []) ts))
 unfolding atoms_under atoms_in
 at-branch j s n i ts t e u (h ∷ hs) l = absurd (omega arith)
@@ -133,12 +132,12 @@ at-branch (suc k) s n i ts t e u [] l =
     inr (record {
       pre = [];
       post = [];
-      was = start-was k s n i ts t e (λ v. u) [] ∙ ap some (sym (append-nil _));
-      is = start_is k s n i ts t e (λ v. u) [] ∙ ap some (sym (append-nil _));
+      was = start-was k s n i ts t e (λ v. u) [] ∙ ap Some (sym (append-nil _));
+      is = start_is k s n i ts t e (λ v. u) [] ∙ ap Some (sym (append-nil _));
     })
 
 -- one level up: the branch stands in v
-module _ (d j : ℕ) (s : Site) (n i : ℕ) (is : List ℕ) (ts : List (Branch (suc (up d j)))) (v : Branch (suc (up d j))) (e : nth i ts ≡ some v) (t : Branch j) (there : branch_at d j is v.1 ≡ some t) where
+module _ (d j : ℕ) (s : Site) (n i : ℕ) (is : List ℕ) (ts : List (Branch (suc (up d j)))) (v : Branch (suc (up d j))) (e : nth i ts ≡ Some v) (t : Branch j) (there : branch_at d j is v.1 ≡ Some t) where
   abbrev k : ℕ
   k = suc (up d j)
 
@@ -177,7 +176,7 @@ module _ (d j : ℕ) (s : Site) (n i : ℕ) (is : List ℕ) (ts : List (Branch (
       unfolding atoms_under
       up_from =
           each_start k s n i ts v e (put u) (same_size d j is v t u there h) _ _ (suc d)
-          (inr (record { pre = pre; post = post; was = ap some up-was; is = ap some up_is }))
+          (inr (record { pre = pre; post = post; was = ap Some up-was; is = ap Some up_is }))
           (λ hs l. rw (start-was (up d j) s n i ts v e (put u) hs, start_is (up d j) s n i ts v e (put u) hs) (b.from hs l u h))
 
     up_above : (start : List ℕ) (last : ℕ) → length start ≡ suc d → i ∷ is ≡ start ++ (last ∷ []) → Above j b.site b.number last t (atoms_under k s n start ts)
@@ -192,13 +191,13 @@ module _ (d j : ℕ) (s : Site) (n i : ℕ) (is : List ℕ) (ts : List (Branch (
             let f = ap (λ (x : ℕ). atoms_under k s n (x ∷ hs) ts) (sym first) in
             record { first = a.first; branches = a.branches; are = f ∙ start-was (up d j) s n i ts v e (λ x. x) hs ∙ a.are; there = a.there }
 
-at_above : (j : ℕ) (s : Site) (n i : ℕ) (is : List ℕ) (ts : List (Branch j)) (t : Branch j) (e : nth i ts ≡ some t) (start : List ℕ) (last : ℕ) → length start ≡ 0 → i ∷ is ≡ start ++ (last ∷ [])
+at_above : (j : ℕ) (s : Site) (n i : ℕ) (is : List ℕ) (ts : List (Branch j)) (t : Branch j) (e : nth i ts ≡ Some t) (start : List ℕ) (last : ℕ) → length start ≡ 0 → i ∷ is ≡ start ++ (last ∷ [])
     → Above j s (number_of j s n i ts t e) last t (atoms_under j s n start ts)
 unfolding atoms_under
 at_above j s n i is ts t e [] last l q = let first : i ≡ last = cc in record { first = n; branches = ts; are = refl; there = rw (← first) (nth-numbered j i n ts t e) }
 at_above j s n i is ts t e (h ∷ hs) last l q = absurd (omega arith)
 
-pub sites : (d j : ℕ) (pos : List ℕ) (s : Site) (n : ℕ) (ts : List (Branch (up d j))) (t : Branch j) → branch_at d j pos ts ≡ some t → Sites d j pos s n ts t
+pub sites : (d j : ℕ) (pos : List ℕ) (s : Site) (n : ℕ) (ts : List (Branch (up d j))) (t : Branch j) → branch_at d j pos ts ≡ Some t → Sites d j pos s n ts t
 unfolding branch_at replace_at atoms_under
 sites d j [] s n ts t e = absurd (no-branch d j ts t e)
 sites zero j (i ∷ is) s n ts t e =
@@ -211,7 +210,7 @@ sites zero j (i ∷ is) s n ts t e =
       is = λ u z. all-is j s n i ts t e (λ v. u) z;
       from = λ start l u z.
           each_start j s n i ts t e (λ v. u) z _ _ 0
-          (inr (record { pre = front j s n i ts t e; post = back j s n i ts t e (size j t); was = ap some (all-was j s n i ts t e); is = ap some (all-is j s n i ts t e (λ v. u) z) }))
+          (inr (record { pre = front j s n i ts t e; post = back j s n i ts t e (size j t); was = ap Some (all-was j s n i ts t e); is = ap Some (all-is j s n i ts t e (λ v. u) z) }))
           (at-branch j s n i ts t e u) start l;
       above = at_above j s n i is ts t e;
     }

@@ -1,13 +1,11 @@
 -- Each of the calls keeps a machine good and within its store, and counts its atoms right. Assumes nothing.
-use Rattle.std.specs.Prelude.{ℕ, zero, suc, ◌+◌, ◌≤◌, ◌≡◌, refl, Bool, true, false, not, ◌&&◌, cond, length, leb, eqb}
+use Rattle.std.specs.Prelude.{ℕ, zero, suc, ◌+◌, ◌≤◌, ◌≡◌, refl, Bool, true, false, not, ◌&&◌, cond, length, leb, eqb, Err, None, Ok, Option, Some, option_map}
 use Rattle.std.proofs.Common.{sym, ap, ◌∙◌, arith, leb-true, ne_eqb}
 use Rattle.std.proofs.Math.Bool.{or-true}
 use mathlib.Core.List.{List, [], ◌∷◌, ◌++◌, map}
-use Rattle.std.proofs.Math.Option
-use Rattle.std.proofs.Math.Option.{Option, none, some}
 use Rattle.std.proofs.lemmas.Bool.{not-true}
 use Rattle.machine.specs.Lists.{is_empty, or_else, all, sum, keep, filter, nth, splice, first_where, last_where, same}
-use Rattle.machine.specs.Answer.{Result, ok, refused, ◌>>=◌, ◌>>◌, need, position, refusal_number}
+use Rattle.machine.specs.Answer.{Result, ◌>>=◌, ◌>>◌, need, position, refusal_number}
 use Rattle.machine.specs.Text.{Optional, chain_id, insertion_code, conformer_name, alternative_location, atom_name, plain, trim, to_upper, pack, fit, uppercase_or, by_flag, optional, stored_by, absent_or}
 use Rattle.machine.specs.Record.{Fields, Atom, finite, is_element, good_fields, good_values}
 use Rattle.machine.specs.Store.{Branch, Machine, records, flat, stored, capacity, atom_count}
@@ -31,25 +29,25 @@ use Rattle.laws.specs.Places.{Measure, size, atoms, splice-sum, splice_all, all_
 module _ {A : Type 0} where
   -- P of the value, where there is one
   data IfOk (P : A → Type 0) : Result A → Type 0 where
-    holds : {x : A} → P x → IfOk P (ok x)
-    nothing : {r : Refusal} → IfOk P (refused r)
+    holds : {x : A} → P x → IfOk P (Ok x)
+    nothing : {r : Refusal} → IfOk P (Err r)
 
-  if_ok : {P : A → Type 0} {x : A} → IfOk P (ok x) → P x
+  if_ok : {P : A → Type 0} {x : A} → IfOk P (Ok x) → P x
   if_ok (holds h) = h
 
-  if-bind : {B : Type 0} (P : A → Type 0) (r : Result B) (f : B → Result A) → ((x : B) → r ≡ ok x → IfOk P (f x)) → IfOk P (r >>= f)
-  if-bind P (ok x) f h = h x refl
-  if-bind P (refused e) f h = nothing
+  if-bind : {B : Type 0} (P : A → Type 0) (r : Result B) (f : B → Result A) → ((x : B) → r ≡ Ok x → IfOk P (f x)) → IfOk P (r >>= f)
+  if-bind P (Ok x) f h = h x refl
+  if-bind P (Err e) f h = nothing
 
-  if-then : {B : Type 0} (P : A → Type 0) (r : Result B) (q : Result A) → ((x : B) → r ≡ ok x → IfOk P q) → IfOk P (r >> q)
-  if-then P (ok x) q h = h x refl
-  if-then P (refused e) q h = nothing
+  if-then : {B : Type 0} (P : A → Type 0) (r : Result B) (q : Result A) → ((x : B) → r ≡ Ok x → IfOk P q) → IfOk P (r >> q)
+  if-then P (Ok x) q h = h x refl
+  if-then P (Err e) q h = nothing
 
-  position_some : (o : Option A) (x : A) → position o ≡ ok x → o ≡ some x
-  position_some none x e = let z : ◌≡◌ {A = ℕ} 0 1 = cc in absurd (omega arith)
-  position_some (some y) x e = cc
+  position_some : (o : Option A) (x : A) → position o ≡ Ok x → o ≡ Some x
+  position_some None x e = let z : ◌≡◌ {A = ℕ} 0 1 = cc in absurd (omega arith)
+  position_some (Some y) x e = cc
 
-need-true : (b : Bool) (r : Refusal) (u : Unit {0}) → need b r ≡ ok u → b ≡ true
+need-true : (b : Bool) (r : Refusal) (u : Unit {0}) → need b r ≡ Ok u → b ≡ true
 need-true true r u e = refl
 need-true false r u e = let z : ◌≡◌ {A = ℕ} 0 1 = cc in absurd (omega arith)
 
@@ -118,7 +116,7 @@ less-non_empty (suc k) ts = less-twice (suc k) ts _ _ (less-map k (non_empty k) 
 -- ---- removals and joins
 
 -- the branch at a position with fewer children
-less-children : (d j : ℕ) (pos : List ℕ) (t : Branch (suc j)) (us : List (Branch j)) (m : List (Branch (up d (suc j)))) → branch_at d (suc j) pos m ≡ some t
+less-children : (d j : ℕ) (pos : List ℕ) (t : Branch (suc j)) (us : List (Branch j)) (m : List (Branch (up d (suc j)))) → branch_at d (suc j) pos m ≡ Some t
     → Less j t.1 us → Less (up d (suc j)) m (with_children d j pos t us m)
 less-children d j pos t us m e l = record {
   good = λ h.
@@ -136,10 +134,10 @@ remove_at-less d j pos m =
       fewer = λ μ. omega (arith, replace-sum μ d j pos [] m t (position_some _ t e));
     }))
 
-without-less : (d j : ℕ) (pos : List ℕ) (t : Branch (suc j)) (o : Option ℕ) (m : List (Branch (up d (suc j)))) → branch_at d (suc j) pos m ≡ some t
+without-less : (d j : ℕ) (pos : List ℕ) (t : Branch (suc j)) (o : Option ℕ) (m : List (Branch (up d (suc j)))) → branch_at d (suc j) pos m ≡ Some t
     → Less (up d (suc j)) m (without d j pos t o m).1
-without-less d j pos t none m e = less-same (up d (suc j)) m
-without-less d j pos t (some i) m e = less-children d j pos t _ m e (less-without j i t.1)
+without-less d j pos t None m e = less-same (up d (suc j)) m
+without-less d j pos t (Some i) m e = less-children d j pos t _ m e (less-without j i t.1)
 
 remove_first-less : (d j : ℕ) (pos : List ℕ) (flag : Result (Unit {0})) (p : Fields j → Bool) (m : List (Branch (up d (suc j))))
     → IfOk (λ c. Less (up d (suc j)) m c.1) (remove_first d j pos flag p m)
@@ -162,7 +160,7 @@ remove_empty-less i m =
 
 -- the first takes the second's children, and then the second goes
 module _ (d j : ℕ) (a b : List ℕ) (m : List (Branch (up d (suc j)))) (la : length a ≡ suc d) (lb : length b ≡ suc d) where
-  joined-less : (t u : Branch (suc j)) → branch_at d (suc j) a m ≡ some t → branch_at d (suc j) b m ≡ some u → same a b ≡ false
+  joined-less : (t u : Branch (suc j)) → branch_at d (suc j) a m ≡ Some t → branch_at d (suc j) b m ≡ Some u → same a b ≡ false
       → Less (up d (suc j)) m (replace_at d (suc j) b [] (with_children d j a t (t.1 ++ u.1) m))
   joined-less t u e f s =
       let both : Branch (suc j) = (t.0, t.1 ++ u.1) in
@@ -186,10 +184,10 @@ module _ (d j : ℕ) (a b : List ℕ) (m : List (Branch (up d (suc j)))) (la : l
 
 -- ---- one record's own fields
 
-refielded-less : (d j : ℕ) (pos : List ℕ) (t : Branch j) (o : Option (Fields j)) (m : List (Branch (up d j))) → branch_at d j pos m ≡ some t
-    → ((f : Fields j) → o ≡ some f → good_fields j (root j t) ≡ true → good_fields j f ≡ true) → Less (up d j) m (refielded d j pos t o m).1
-refielded-less d j pos t none m e h = less-same (up d j) m
-refielded-less d j pos t (some f) m e h = record {
+refielded-less : (d j : ℕ) (pos : List ℕ) (t : Branch j) (o : Option (Fields j)) (m : List (Branch (up d j))) → branch_at d j pos m ≡ Some t
+    → ((f : Fields j) → o ≡ Some f → good_fields j (root j t) ≡ true → good_fields j f ≡ true) → Less (up d j) m (refielded d j pos t o m).1
+refielded-less d j pos t None m e h = less-same (up d j) m
+refielded-less d j pos t (Some f) m e h = record {
   good = λ g.
       let b = branch-good d j pos m t e g in
       replace-all d j pos (with_fields j f t ∷ []) m g (and-true (fields-good j f t b (h f refl (root-good j t b))) refl);
@@ -198,7 +196,7 @@ refielded-less d j pos t (some f) m e h = record {
 
 -- f makes good fields of good ones
 set_at-less : (d j : ℕ) (pos : List ℕ) (f : Fields j → Result (Option (Fields j))) (m : List (Branch (up d j)))
-    → ((x y : Fields j) → f x ≡ ok (some y) → good_fields j x ≡ true → good_fields j y ≡ true)
+    → ((x y : Fields j) → f x ≡ Ok (Some y) → good_fields j x ≡ true → good_fields j y ≡ true)
     → IfOk (λ c. Less (up d j) m c.1) (set_at d j pos f m)
 unfolding set_at
 set_at-less d j pos f m h =
@@ -215,10 +213,10 @@ element-good e a l g =
     let w = and_both floats (leb a.element 118) v.0 in
     and-true b.0 (and-true (and-true w.0 l) v.1)
 
-fill_in-good : (e : ℕ) (a b : Atom) → fill_in e a ≡ ok (some b) → good_fields 0 a ≡ true → good_fields 0 b ≡ true
+fill_in-good : (e : ℕ) (a b : Atom) → fill_in e a ≡ Ok (Some b) → good_fields 0 a ≡ true → good_fields 0 b ≡ true
 fill_in-good e a b h g = go (is_element e) refl (eqb a.element 0) h
   where
-    go : (c : Bool) → is_element e ≡ c → (z : Bool) → (need c BadValue >> ok (cond z (some (with_element e a)) none)) ≡ ok (some b) → good_fields 0 b ≡ true
+    go : (c : Bool) → is_element e ≡ c → (z : Bool) → (need c BadValue >> Ok (cond z (Some (with_element e a)) None)) ≡ Ok (Some b) → good_fields 0 b ≡ true
     go false p z q = let n : ◌≡◌ {A = ℕ} 0 1 = cc in absurd (omega arith)
     go true p false q = let n : ◌≡◌ {A = ℕ} 0 1 = cc in absurd (omega arith)
     go true p true q = let i : with_element e a ≡ b = cc in rw i at (element-good e a (and_both (leb 1 e) (leb e 118) p).1 g)
@@ -228,26 +226,26 @@ fill_in-good e a b h g = go (is_element e) refl (eqb a.element 0) h
 module _ {A : Type 0} where
   -- an index, where there is one, has an element
   abbrev Inside : List A → Option ℕ → Type 0
-  Inside xs none = Unit {0}
-  Inside xs (some i) = (x : A) × (nth i xs ≡ some x)
+  Inside xs None = Unit {0}
+  Inside xs (Some i) = (x : A) × (nth i xs ≡ Some x)
 
   first-inside : (p : A → Bool) (xs : List A) → Inside xs (first_where p xs)
   first-inside p [] = tt
   first-inside p (x ∷ xs) = go (p x) (first_where p xs) (first-inside p xs)
     where
-      go : (b : Bool) (o : Option ℕ) → Inside xs o → Inside (x ∷ xs) (cond b (some 0) (Option.map suc o))
+      go : (b : Bool) (o : Option ℕ) → Inside xs o → Inside (x ∷ xs) (cond b (Some 0) (option_map suc o))
       go true o h = (x, refl)
-      go false none h = tt
-      go false (some i) h = h
+      go false None h = tt
+      go false (Some i) h = h
 
   last-inside : (p : A → Bool) (xs : List A) → Inside xs (last_where p xs)
   last-inside p [] = tt
   last-inside p (x ∷ xs) = go (p x) (last_where p xs) (last-inside p xs)
     where
-      go : (b : Bool) (o : Option ℕ) → Inside xs o → Inside (x ∷ xs) (or_else (Option.map suc o) (cond b (some 0) none))
-      go b (some i) h = h
-      go true none h = (x, refl)
-      go false none h = tt
+      go : (b : Bool) (o : Option ℕ) → Inside xs o → Inside (x ∷ xs) (or_else (option_map suc o) (cond b (Some 0) None))
+      go b (Some i) h = h
+      go true None h = (x, refl)
+      go false None h = tt
 
   pick-inside : (w : Which) (p : A → Bool) (xs : List A) → Inside xs (pick w p xs)
   pick-inside first p xs = first-inside p xs
@@ -255,13 +253,13 @@ module _ {A : Type 0} where
 
   put_in-sum : (μ : A → ℕ) (o : Option ℕ) (f : A → A) (new : A) (xs : List A) → ((x : A) → μ (f x) ≡ suc (μ x)) → μ new ≡ 1 → Inside xs o
       → sum μ (put_in o f new xs) ≡ suc (sum μ xs)
-  put_in-sum μ none f new xs g e h = omega (arith, sum-append μ xs (new ∷ []))
-  put_in-sum μ (some i) f new xs g e h = omega (arith, splice-sum μ i (λ x. f x ∷ []) xs h.0 h.1, g h.0)
+  put_in-sum μ None f new xs g e h = omega (arith, sum-append μ xs (new ∷ []))
+  put_in-sum μ (Some i) f new xs g e h = omega (arith, splice-sum μ i (λ x. f x ∷ []) xs h.0 h.1, g h.0)
 
   put_in-all : (p : A → Bool) (o : Option ℕ) (f : A → A) (new : A) (xs : List A) → ((x : A) → p x ≡ true → p (f x) ≡ true) → p new ≡ true → all p xs ≡ true
       → all p (put_in o f new xs) ≡ true
-  put_in-all p none f new xs g e h = all_append p xs (new ∷ []) h (and-true e refl)
-  put_in-all p (some i) f new xs g e h = splice_all p i (λ x. f x ∷ []) (λ x k. and-true (g x k) refl) xs h
+  put_in-all p None f new xs g e h = all_append p xs (new ∷ []) h (and-true e refl)
+  put_in-all p (Some i) f new xs g e h = splice_all p i (λ x. f x ∷ []) (λ x k. and-true (g x k) refl) xs h
 
 module _ (k : ℕ) (w : Which) (p : Fields (suc k) → Bool) (new : Fields (suc k)) (f : List (Branch k) → List (Branch k)) where
   -- one atom more among the children is one atom more
@@ -287,23 +285,23 @@ into_chains-count p ts = upsert-count 2 _ _ _ _ (upsert-count 1 _ _ _ _ (upsert-
 -- ---- an addition's names are in stored form
 
 -- where a rule never says absent, what is accepted is stored
-accepted : (n : Name) (b : Bool) (t : List ℕ) (w : ℕ) → accept n (cond b (fit t) Bad) ≡ ok w → cond b (fit t) Bad ≡ Stored w
+accepted : (n : Name) (b : Bool) (t : List ℕ) (w : ℕ) → accept n (cond b (fit t) Bad) ≡ Ok w → cond b (fit t) Bad ≡ Stored w
 accepted n true t w e = go (leb (length t) 8) e
   where
-    go : (c : Bool) → accept n (cond c (Stored (pack t)) Bad) ≡ ok w → cond c (Stored (pack t)) Bad ≡ Stored w
+    go : (c : Bool) → accept n (cond c (Stored (pack t)) Bad) ≡ Ok w → cond c (Stored (pack t)) Bad ≡ Stored w
     go true f = cc
     go false f = let z : ◌≡◌ {A = ℕ} 0 1 = cc in absurd (omega arith)
 accepted n false t w e = let z : ◌≡◌ {A = ℕ} 0 1 = cc in absurd (omega arith)
 
-chain_id-accepted : (t : List ℕ) (w : ℕ) → accept ChainId (chain_id t) ≡ ok w → chain_id t ≡ Stored w
+chain_id-accepted : (t : List ℕ) (w : ℕ) → accept ChainId (chain_id t) ≡ Ok w → chain_id t ≡ Stored w
 unfolding chain_id
 chain_id-accepted t w e = accepted ChainId (all plain (trim t) && not (is_empty (trim t))) (trim t) w e
 
-conformer_name-accepted : (t : List ℕ) (w : ℕ) → accept ConformerName (conformer_name t) ≡ ok w → conformer_name t ≡ Stored w
+conformer_name-accepted : (t : List ℕ) (w : ℕ) → accept ConformerName (conformer_name t) ≡ Ok w → conformer_name t ≡ Stored w
 unfolding uppercase_or
 conformer_name-accepted t w e = accepted ConformerName (all plain t && not (is_empty (trim t))) (map to_upper (trim t)) w e
 
-atom_name-accepted : (t : List ℕ) (w : ℕ) → accept AtomName (atom_name t) ≡ ok w → atom_name t ≡ Stored w
+atom_name-accepted : (t : List ℕ) (w : ℕ) → accept AtomName (atom_name t) ≡ Ok w → atom_name t ≡ Stored w
 unfolding atom_name
 atom_name-accepted t w e = accepted AtomName (all plain (trim t)) (map to_upper (trim t)) w e
 
@@ -314,12 +312,12 @@ flag-stored (suc (suc f)) p w e = let z : ◌≡◌ {A = ℕ} 0 1 = cc in absurd
 
 -- an optional name that is accepted is absent or in stored form
 module _ (n : Name) (rule : List ℕ → Prepared) (w : ℕ) where
-  prepared-good : (p : Prepared) → (p ≡ Stored w → stored_by rule w ≡ true) → accept n p ≡ ok w → absent_or rule w ≡ true
+  prepared-good : (p : Prepared) → (p ≡ Stored w → stored_by rule w ≡ true) → accept n p ≡ Ok w → absent_or rule w ≡ true
   prepared-good (Stored v) h e = let q : Stored v ≡ Stored w = cc in rw (h q) (or-true (eqb w 0))
   prepared-good Absent h e = let q : 0 ≡ w = cc in rw (← q)
   prepared-good Bad h e = let z : ◌≡◌ {A = ℕ} 0 1 = cc in absurd (omega arith)
 
-  optional-good : (o : Optional) → ((t : List ℕ) (v : ℕ) → rule t ≡ Stored v → stored_by rule v ≡ true) → accept n (optional rule o) ≡ ok w → absent_or rule w ≡ true
+  optional-good : (o : Optional) → ((t : List ℕ) (v : ℕ) → rule t ≡ Stored v → stored_by rule v ≡ true) → accept n (optional rule o) ≡ Ok w → absent_or rule w ≡ true
   optional-good o stores e = prepared-good (optional rule o) (λ q. stores o.text w (flag-stored o.flag (rule o.text) w q)) e
 
 -- an addition's names as they are stored are good
@@ -379,7 +377,7 @@ add_model-grows n serial m =
 abbrev with_atom : ℕ → PreparedAddition → Branch 4 → Machine → Machine
 with_atom i p t m = with_children 0 3 (i ∷ []) t (into_chains p t.1) m
 
-module _ (i : ℕ) (m : Machine) (t : Branch 4) (p : PreparedAddition) (there : branch_at 0 4 (i ∷ []) m ≡ some t) where
+module _ (i : ℕ) (m : Machine) (t : Branch 4) (p : PreparedAddition) (there : branch_at 0 4 (i ∷ []) m ≡ Some t) where
   added-count : stored (with_atom i p t m) ≡ 1 + stored m
   added-count =
       let new : Branch 4 = (t.0, into_chains p t.1) in
@@ -408,16 +406,16 @@ record Step (n : ℕ) (m : Machine) (c : Call) (r : Result Change) : Type 0 wher
   keeps : Fit n m → Fit n (next m r)
   counts : stored (next m r) + removed_by (answer m r) ≡ stored m + added_by c (answer m r)
 
-refused-step : (n : ℕ) (m : Machine) (c : Call) (e : Refusal) → added_by c (answer m (refused e)) ≡ 0 → Step n m c (refused e)
+refused-step : (n : ℕ) (m : Machine) (c : Call) (e : Refusal) → added_by c (answer m (Err e)) ≡ 0 → Step n m c (Err e)
 refused-step n m c e z = record { keeps = λ f. f; counts = ap (λ (k : ℕ). stored m + k) (sym z) }
 
 -- a call that adds nothing
 module _ (n : ℕ) (m : Machine) (c : Call) (none-added : (l : List ℕ) → added_by c l ≡ 0) where
   less-step : (r : Result Change) → IfOk (λ x. Less 4 m x.after) r → Step n m c r
-  less-step (refused e) nothing = refused-step n m c e (none-added (answer m (refused e)))
-  less-step (ok x) (holds l) = record {
+  less-step (Err e) nothing = refused-step n m c e (none-added (answer m (Err e)))
+  less-step (Ok x) (holds l) = record {
     keeps = λ f. record { good = l.good f.good; room = omega (arith, l.fewer size, length-concat_map (flat 4) m, length-concat_map (flat 4) x.after, f.room) };
-    counts = omega (arith, l.fewer atoms, none-added (answer m (ok x)));
+    counts = omega (arith, l.fewer atoms, none-added (answer m (Ok x)));
   }
 
   machine-step : (r : Result Machine) → IfOk (Less 4 m) r → Step n m c (with_machine r)
@@ -427,10 +425,10 @@ module _ (n : ℕ) (m : Machine) (c : Call) (none-added : (l : List ℕ) → add
   found-step r h = less-step (with_found r) (if-bind _ r _ (λ x e. holds (if_ok (rw e at h))))
 
 -- a call that adds k atoms where it is accepted
-grows-step : (n k : ℕ) (m : Machine) (c : Call) → ((x : Change) → added_by c (answer m (ok x)) ≡ k) → ((e : Refusal) → added_by c (answer m (refused e)) ≡ 0)
+grows-step : (n k : ℕ) (m : Machine) (c : Call) → ((x : Change) → added_by c (answer m (Ok x)) ≡ k) → ((e : Refusal) → added_by c (answer m (Err e)) ≡ 0)
     → (r : Result Change) → IfOk (λ x. Grows n k m x.after) r → Step n m c r
-grows-step n k m c done not_done (refused e) nothing = refused-step n m c e (not_done e)
-grows-step n k m c done not_done (ok x) (holds g) = record {
+grows-step n k m c done not_done (Err e) nothing = refused-step n m c e (not_done e)
+grows-step n k m c done not_done (Ok x) (holds g) = record {
   keeps = λ f. record { good = g.good f.good; room = g.room };
   counts = omega (arith, g.more, done x);
 }

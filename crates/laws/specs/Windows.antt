@@ -1,7 +1,6 @@
 -- More levels known: what is decided stays, so a branch where a tree is false has no hit below. Assumes nothing.
-use Rattle.std.specs.Prelude.{ℕ, ◌≤◌, ◌≡◌, refl, Bool, true, false, cond, List, leb}
+use Rattle.std.specs.Prelude.{ℕ, ◌≤◌, ◌≡◌, refl, Bool, true, false, cond, List, leb, None, Option, Some}
 use Rattle.std.proofs.lemmas.Bool.{false≢true}
-use Rattle.std.proofs.Math.Option.{Option, none, some}
 use Rattle.std.proofs.Common.{arith, leb-true, le-leb}
 use Rattle.machine.specs.Record.{Conformer, Atom}
 use Rattle.machine.specs.Query.{tree_value, Place, Names, only_if, between, window, known, element_is, member, among_residues, term_value}
@@ -25,8 +24,8 @@ element-grows true true i o n = ⊑_refl (element_is n o)
 
 -- the conformer's part: an atom that isn't known leaves it undecided or false
 among-grows : (names : Names) (o : Option Conformer) (x : Tri) → among_residues names o Undecided ⊑ among_residues names o x
-among-grows names none x = tt
-among-grows names (some c) x = go (member names.residues c.name)
+among-grows names None x = tt
+among-grows names (Some c) x = go (member names.residues c.name)
   where
     go : (b : Bool) → cond b Undecided False ⊑ cond b x False
     go true = tt

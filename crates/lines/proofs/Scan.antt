@@ -1,11 +1,10 @@
 -- Change request §9: a text is taken as a whole exactly where its lines are taken one by one, from the first to the last. Assumes nothing.
-use Rattle.std.specs.Prelude.{ℕ, zero, suc, ◌*◌, ◌/◌, ◌%◌, ◌<◌, ◌≡◌, Bool, not, ◌&&◌, length, get_or, take, drop}
+use Rattle.std.specs.Prelude.{ℕ, zero, suc, ◌*◌, ◌/◌, ◌%◌, ◌<◌, ◌≡◌, Bool, not, ◌&&◌, length, get_or, take, drop, None, Some}
 use Rattle.std.proofs.Math.Path.{refl, sym, ap}
 use Rattle.std.proofs.Common.{◌∙◌, arith, length-append, take-append-drop, length-take, length-drop}
 use Rattle.std.proofs.Math.Bool.{true, false, cond, and_assoc, and-false}
 use Rattle.std.proofs.lemmas.Bool.{false≢true}
 use mathlib.Core.List.{List, [], ◌∷◌, ◌++◌, map}
-use Rattle.std.proofs.Math.Option.{none, some}
 use Rattle.std.proofs.Math.Dec.{eqb}
 use borrow.Author.Tests.{eqb-true, eqb-false, ne_eqb}
 use Rattle.machine.specs.Lists.{is_some, is_empty, all, concat_map, same}
@@ -207,24 +206,24 @@ module _ (t : List ℕ) where
     where
       go : (b : Bool) → eqb (length t % 81) 0 ≡ b → whole t ≡ b && taken_from false ls
       go true e = sym (whole-closed e) ∙ whole-lines e
-      go false e = none (whole t) refl
+      go false e = None (whole t) refl
         where
-          none : (w : Bool) → whole t ≡ w → w ≡ false
-          none false h = refl
-          none true h = absurd (eqb-false (length t % 81) 0 e (whole_length h))
+          None : (w : Bool) → whole t ≡ w → w ≡ false
+          None false h = refl
+          None true h = absurd (eqb-false (length t % 81) 0 e (whole_length h))
 
   -- the text as a whole, and line by line
   pub taken-text : is_some (read_text t) ≡ taken_text t
   unfolding read_text
   taken-text = go (whole t) ∙ whole-taken
     where
-      go : (b : Bool) → is_some (cond b (some (entries_in t)) none) ≡ b
+      go : (b : Bool) → is_some (cond b (Some (entries_in t)) None) ≡ b
       go true = refl
       go false = refl
 
-  pub taken-entries : taken_text t ≡ true → read_text t ≡ some (entries_in t)
+  pub taken-entries : taken_text t ≡ true → read_text t ≡ Some (entries_in t)
   unfolding read_text
-  taken-entries h = ap (λ (b : Bool). cond b (some (entries_in t)) none) (whole-taken ∙ h)
+  taken-entries h = ap (λ (b : Bool). cond b (Some (entries_in t)) None) (whole-taken ∙ h)
 
   pub taken-good : taken_text t ≡ true → all good_entry (entries_in t) ≡ true
   taken-good h = (and_both (all good_entry (entries_in t)) (writable (entries_in t) && same (text_of_entries (entries_in t)) t) (whole-taken ∙ h)).0
@@ -233,8 +232,8 @@ module _ (t : List ℕ) where
   unfolding taken_text
   taken-closed h =
       let p = and_both (eqb (length t % 81) 0) (taken_from false ls) h in
-      none (part_in ls).0 (and_both (is_empty (part_in ls).0) (whole t) (whole-lines p.0 ∙ p.1)).0
+      None (part_in ls).0 (and_both (is_empty (part_in ls).0) (whole t) (whole-lines p.0 ∙ p.1)).0
     where
-      none : (xs : List AtomLine) → is_empty xs ≡ true → xs ≡ []
-      none [] e = refl
-      none (x ∷ xs) e = absurd (false≢true e)
+      None : (xs : List AtomLine) → is_empty xs ≡ true → xs ≡ []
+      None [] e = refl
+      None (x ∷ xs) e = absurd (false≢true e)

@@ -1,8 +1,7 @@
 -- Change request §9, "The reader takes exactly the text that the writer of §1, with §5, could make": what it takes is the text of a good machine
 -- that the writer accepts. Assumes nothing.
-use Rattle.std.specs.Prelude.{ℕ, ◌≡◌, refl, Bool, true, false, ◌&&◌, cond, List, [], ◌∷◌, map}
+use Rattle.std.specs.Prelude.{ℕ, ◌≡◌, refl, Bool, true, false, ◌&&◌, cond, List, [], ◌∷◌, map, None, Some}
 use Rattle.std.proofs.Common.{ap, ◌∙◌, sym, arith}
-use Rattle.std.proofs.Math.Option.{none, some}
 use Rattle.machine.specs.Lists.{all, same, concat_map}
 use Rattle.machine.specs.Record.{good_fields}
 use Rattle.machine.specs.Store.{Branch, Machine}
@@ -13,14 +12,14 @@ use Rattle.laws.specs.Good.{good_branch}
 
 -- ---- what is taken is written so
 
-pub read-written : (t : List ℕ) (es : List Entry) → read_text t ≡ some es → (text_of_entries es ≡ t) × (all good_entry es ≡ true) × (writable es ≡ true)
+pub read-written : (t : List ℕ) (es : List Entry) → read_text t ≡ Some es → (text_of_entries es ≡ t) × (all good_entry es ≡ true) × (writable es ≡ true)
 unfolding read_text
 read-written t es e = go (all good_entry xs && (writable xs && same (text_of_entries xs) t)) refl e
   where
     xs : List Entry
     xs = entries_in t
 
-    go : (b : Bool) → all good_entry (entries_in t) && (writable (entries_in t) && same (text_of_entries (entries_in t)) t) ≡ b → cond b (some (entries_in t)) none ≡ some es
+    go : (b : Bool) → all good_entry (entries_in t) && (writable (entries_in t) && same (text_of_entries (entries_in t)) t) ≡ b → cond b (Some (entries_in t)) None ≡ Some es
         → (text_of_entries es ≡ t) × (all good_entry es ≡ true) × (writable es ≡ true)
     go true p f =
         let q : entries_in t ≡ es = cc in

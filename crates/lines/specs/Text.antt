@@ -1,8 +1,7 @@
 -- Change request §9: a text that is written is read back, with its floats settled. Assumes nothing.
-use Rattle.std.specs.Prelude.{ℕ, ◌/◌, ◌≡◌, refl, Bool, true, false, ◌&&◌, cond, List, [], ◌∷◌, ◌++◌, map, length, get_or, eqb}
+use Rattle.std.specs.Prelude.{ℕ, ◌/◌, ◌≡◌, refl, Bool, true, false, ◌&&◌, cond, List, [], ◌∷◌, ◌++◌, map, length, get_or, eqb, None, Some}
 use Rattle.std.proofs.Common.{ap, ◌∙◌, append_assoc, append-nil, lt_of_lt_of_le, arith, take_at, drop_at, lit≤, lit<, Fits}
 use Rattle.std.proofs.lemmas.List.{map-append}
-use Rattle.std.proofs.Math.Option.{none, some}
 use Rattle.std.specs.Int.{w64}
 use Rattle.machine.specs.Lists.{all, concat_map, same}
 use Rattle.machine.specs.Program.{decimal}
@@ -134,12 +133,12 @@ entries-good [] r = refl
 entries-good (e ∷ es) r = and-true (atoms-good e.atoms r.0.atoms) (entries-good es r.1)
 
 -- the text read back
-pub text-back : (es : List Entry) → All ReadyEntry es → read_text (text_of_entries es) ≡ some (map settled_entry es)
+pub text-back : (es : List Entry) → All ReadyEntry es → read_text (text_of_entries es) ≡ Some (map settled_entry es)
 unfolding read_text
 text-back es r =
     let t = text_of_entries es in
     let w = ready-writable es r in
     let again = entries-again es r in
-    ap (λ (p : Part). cond (all good_entry p.1 && (writable p.1 && same (text_of_entries p.1) t)) (some p.1) none) (ap part_in (text-lines es w) ∙ part-text es r)
-    ∙ ap (λ (b : Bool). cond b (some (map settled_entry es)) none)
+    ap (λ (p : Part). cond (all good_entry p.1 && (writable p.1 && same (text_of_entries p.1) t)) (Some p.1) None) (ap part_in (text-lines es w) ∙ part-text es r)
+    ∙ ap (λ (b : Bool). cond b (Some (map settled_entry es)) None)
     (and-true (entries-good es r) (and-true (ap (all (all fitting)) again ∙ w) (ap (λ (ls : List (List Column)). same (concat_map line_of ls) t) again ∙ same_refl t)))

@@ -1,9 +1,9 @@
 -- The scan of a level: each turn takes the next branch's records. Assumes nothing.
+use Rattle.std.specs.Prelude.{Some, None}
 use Prim.Native.Nat.{ℕ, zero, suc, ◌+◌, ◌-◌, ◌≤◌, ◌<◌}
 use mathlib.Core.Path.{◌≡◌, refl, sym, ap, ◌∙◌}
 use mathlib.Core.Bool.{Bool, true, false}
 use mathlib.Core.List.{List, [], ◌∷◌, ◌++◌, append-nil}
-use mathlib.Core.Option.{some}
 use native.Mathlib.Omega.{arith}
 use lib.ListN.{length, take, drop, length-append, length-drop}
 use lib.Seq.{length-take-le, take-append_seam, drop-append_seam, drop_at, drop-drop, take-add}
@@ -16,9 +16,8 @@ use Rattle.machine.specs.Find.{size, numbered}
 use Rattle.machine.specs.Edit.{root}
 use Rattle.machine.specs.Lookup.{serials}
 use Rattle.laws.specs.Grouped.{words-kind, chunks-length}
-use Rattle.seek.specs.Seek.{Within, record_at, records_in, descendants, at_child, to_end, span_at, span_of}
+use Rattle.seek.specs.Seek.{Within, record_at, records_in, descendants, at_child, to_end, span_at}
 use Rattle.seek.proofs.Below.{chunks-take, records_in-cons, records_in-nil, child-here, child-span, under, flat-root}
-use Rattle.seek.specs.declared.Span as Span
 use Rattle.lookup.specs.Level.{wanted, first_wanted, Level, span_wanted, atom_serials, wanted_records}
 use Rattle.lookup.proofs.Serials.{atoms-append}
 
@@ -83,8 +82,8 @@ stop-at : (g k : ℕ) → g + k ≡ 4 → (at : ℕ) (t : Branch k) (more : List
 unfolding numbered span_at
 stop-at g k l at t more =
     let rs = under k t ++ concat_map (flat k) more in
-    let a : at_child (suc g) 0 (to_end (suc g)) at (words k (root k t) ∷ rs) ≡ some (at, suc at + descendants (suc g) rs) = child-here (suc g) (to_end (suc g)) at (words k (root k t)) rs (omega (arith, words-kind k (omega arith) (root k t))) in
-    let b : at_child (suc g) 0 (to_end (suc g)) at (words k (root k t) ∷ rs) ≡ some (at, at + suc (length (under k t))) = rw (append-nil, flat-root k t) at (child-span g k l 0 at (t ∷ more) [] tt) in
+    let a : at_child (suc g) 0 (to_end (suc g)) at (words k (root k t) ∷ rs) ≡ Some (at, suc at + descendants (suc g) rs) = child-here (suc g) (to_end (suc g)) at (words k (root k t)) rs (omega (arith, words-kind k (omega arith) (root k t))) in
+    let b : at_child (suc g) 0 (to_end (suc g)) at (words k (root k t) ∷ rs) ≡ Some (at, at + suc (length (under k t))) = rw (append-nil, flat-root k t) at (child-span g k l 0 at (t ∷ more) [] tt) in
     let c : ◌≡◌ {A = ℕ × ℕ} (at, suc at + descendants (suc g) rs) (at, at + suc (length (under k t))) = cc in
     ap (λ (z : ℕ × ℕ). z.1) c ∙ rw (flat-root k t)
 
@@ -112,7 +111,7 @@ pub record Looked (k serial : ℕ) (o : Optional) (w : List ℕ) (from end at : 
   pub rest : records_in at end w ≡ concat_map (flat k) left
   pub same : first_wanted k serial o from (group k (records_in from end w)) ≡ first_wanted k serial o at left
 
-first-hit : (k serial : ℕ) (o : Optional) (n : ℕ) (t : Branch k) (ts : List (Branch k)) → wanted k serial o t ≡ true → first_wanted k serial o n (t ∷ ts) ≡ some (n, t)
+first-hit : (k serial : ℕ) (o : Optional) (n : ℕ) (t : Branch k) (ts : List (Branch k)) → wanted k serial o t ≡ true → first_wanted k serial o n (t ∷ ts) ≡ Some (n, t)
 unfolding numbered
 first-hit k serial o n t ts e = rw e
 
@@ -129,7 +128,7 @@ module _ (k serial : ℕ) (o : Optional) (w : List ℕ) (from end : ℕ) (p : Le
   looked-begin = record { high = p.within.order; left = group k (records_in from end w); rest = p.whole; same = refl }
 
   module _ (at : ℕ) (s : Looked k serial o w from end at) where
-    pub looked-end : end ≤ at → Span.TheVariants.Missing ≡ span_of (span_wanted k serial o from end w)
+    pub looked-end : end ≤ at → None ≡ span_wanted k serial o from end w
     unfolding numbered
     looked-end l = rw (s.same ∙ ap (first_wanted k serial o at) (none_left k s.left (sym (records_in-nil w end at l) ∙ s.rest)))
 
@@ -146,11 +145,11 @@ module _ (k serial : ℕ) (o : Optional) (w : List ℕ) (from end : ℕ) (p : Le
       asked : (r : Bool) → r ≡ wanted_records k serial o (record_at at w) (records_in (at + 1) stop w) → r ≡ wanted k serial o here.branch
       asked r f = f ∙ rw (here.own, here.below) (wanted-records k p.level serial o here.branch)
 
-      pub looked-here : (r : Bool) → r ≡ wanted_records k serial o (record_at at w) (records_in (at + 1) stop w) → r ≡ true → Span.TheVariants.At at stop ≡ span_of (span_wanted k serial o from end w)
+      pub looked-here : (r : Bool) → r ≡ wanted_records k serial o (record_at at w) (records_in (at + 1) stop w) → r ≡ true → (Some (at, stop)) ≡ span_wanted k serial o from end w
       looked-here r f t =
           let h = here in
-          let q : first_wanted k serial o from (group k (records_in from end w)) ≡ some (at, h.branch) = s.same ∙ ap (first_wanted k serial o at) h.left_is ∙ first-hit k serial o at h.branch h.more (sym (asked r f) ∙ t) in
-          ap (λ (n : ℕ). Span.TheVariants.At at n) h.stop_is ∙ rw q
+          let q : first_wanted k serial o from (group k (records_in from end w)) ≡ Some (at, h.branch) = s.same ∙ ap (first_wanted k serial o at) h.left_is ∙ first-hit k serial o at h.branch h.more (sym (asked r f) ∙ t) in
+          ap (λ (n : ℕ). (Some (at, n))) h.stop_is ∙ rw q
 
       pub looked-on : (r : Bool) → r ≡ wanted_records k serial o (record_at at w) (records_in (at + 1) stop w) → r ≡ false → Looked k serial o w from end stop
       looked-on r f t =

@@ -1,13 +1,12 @@
 -- The lookup on one level: what it asks of a branch, over the machine and over the records. Assumes nothing.
-use Rattle.std.specs.Prelude.{ℕ, zero, suc, ◌+◌, ◌≤◌, ◌≡◌, Bool, ◌&&◌, cond, List, [], ◌∷◌, get_or, eqb}
-use Rattle.std.proofs.Math.Option.{Option, some}
+use Rattle.std.specs.Prelude.{ℕ, zero, suc, ◌+◌, ◌≤◌, ◌≡◌, Bool, ◌&&◌, cond, List, [], ◌∷◌, get_or, eqb, Ok, Option, Some}
 use Rattle.machine.specs.Lists.{any, concat_map, and_then}
-use Rattle.machine.specs.Answer.{ok, ◌>>◌, need, bad_name}
+use Rattle.machine.specs.Answer.{◌>>◌, need, bad_name, looked_up_numbers}
 use Rattle.machine.specs.Text.{Optional, good_flag, matches_optional}
 use Rattle.machine.specs.Record.{Words, kind}
 use Rattle.machine.specs.Store.{Branch, Machine, flat, group}
 use Rattle.machine.specs.Find.{size, numbered}
-use Rattle.machine.specs.Lookup.{first_of, serials, spans, has_atom, in_first, looked_up}
+use Rattle.machine.specs.Lookup.{first_of, serials, spans, has_atom, in_first}
 use Rattle.machine.specs.declared.Name.TheVariants.{AlternativeLocation}
 use Rattle.seek.specs.Seek.{Within, records_in}
 
@@ -21,7 +20,7 @@ wanted (suc (suc k)) serial o t = spans serial (serials (suc (suc k)) t)
 
 -- the answer's numbers for a store that holds m
 abbrev pub lookup_numbers : ℕ → Optional → Machine → List ℕ
-lookup_numbers serial o m = looked_up (need (good_flag o) (bad_name AlternativeLocation) >> ok (in_first serial o m))
+lookup_numbers serial o m = looked_up_numbers (need (good_flag o) (bad_name AlternativeLocation) >> Ok (in_first serial o m))
 
 -- the first branch that is wanted, of those numbered from n on
 abbrev pub first_wanted : (k : ℕ) → ℕ → Optional → ℕ → List (Branch k) → Option (ℕ × Branch k)
@@ -36,7 +35,7 @@ pub record Level (k from end : ℕ) (w : List ℕ) : Type 0 where
 -- the span of the first that is wanted
 abbrev pub span_wanted : (k : ℕ) → ℕ → Optional → ℕ → ℕ → List ℕ → Option (ℕ × ℕ)
 span_wanted k serial o from end w =
-    and_then (first_wanted k serial o from (group k (records_in from end w))) (λ t. some (t.0, t.0 + size k t.1))
+    and_then (first_wanted k serial o from (group k (records_in from end w))) (λ t. Some (t.0, t.0 + size k t.1))
 
 -- ---- over the records
 

@@ -7,24 +7,21 @@ ghost use Rattle.machine.specs.Lists.{any, last_of};
 ghost use Rattle.machine.specs.Answer.{looked_up_numbers};
 ghost use Rattle.machine.specs.Text.{optional_of};
 ghost use Rattle.machine.specs.Lookup.{spans};
-ghost use Rattle.seek.specs.Seek.{Good, Within, held, record_at, records_in, span_of};
+ghost use Rattle.seek.specs.Seek.{Good, Within, held, record_at, records_in};
 ghost use Rattle.lookup.specs.Level.{lookup_numbers, Level, span_wanted, atom_serials, wanted_records};
 
-use machine::{LookedUp, Name, Record, RecordNumbers};
-use seek::Span;
+use machine::{Name, Record, RecordNumbers, Refusal};
 
 // The serial of the last atom among the records from `from` up to `end`; `first` where there is none.
 fn last_serial(store: &[u64], from: usize, end: usize, first: u64) -> u64
     requires { Within from end store.now }
     ensures { result ≡ last_of first (atom_serials (records_in from end store.now)) }
 {
-    let mut at: usize = end;
-    while from < at {
-        let word = (at - 1) * Record::WIDTH;
+    for at in (from..end).rev() {
+        let word = at * Record::WIDTH;
         if store[word] == Record::ATOM {
             return store[word + Record::SERIAL];
         }
-        at -= 1;
     }
     first
 }
@@ -34,8 +31,7 @@ fn spans_serial(store: &[u64], from: usize, end: usize, serial: u64) -> bool
     requires { Within from end store.now }
     ensures { result ≡ spans serial (atom_serials (records_in from end store.now)) }
 {
-    let mut at: usize = from;
-    while at < end {
+    for at in from..end {
         let word = at * Record::WIDTH;
         if store[word] == Record::ATOM {
             let first = store[word + Record::SERIAL];
@@ -44,7 +40,6 @@ fn spans_serial(store: &[u64], from: usize, end: usize, serial: u64) -> bool
             }
             return serial <= last_serial(store, at + 1, end, first);
         }
-        at += 1;
     }
     false
 }
@@ -54,16 +49,10 @@ fn has_serial(store: &[u64], from: usize, end: usize, serial: u64) -> bool
     requires { Within from end store.now }
     ensures { result ≡ any (eqb serial) (atom_serials (records_in from end store.now)) }
 {
-    let mut at: usize = from;
-    while at < end {
+    for at in from..end {
         let word = at * Record::WIDTH;
-        if store[word] == Record::ATOM {
-            if serial == store[word + Record::SERIAL] {
-                return true;
-            }
-            at += 1;
-        } else {
-            at += 1;
+        if store[word] == Record::ATOM && serial == store[word + Record::SERIAL] {
+            return true;
         }
     }
     false
@@ -108,52 +97,57 @@ fn first_in(
     serial: u64,
     flag: u64,
     location: &[u8],
-) -> Span
+) -> Option<(usize, usize)>
     requires { Level level (parent + 1) end store.now }
-    ensures { result ≡ span_of (span_wanted level serial (optional_of flag location.now) (parent + 1) end store.now) }
+    ensures { result ≡ span_wanted level serial (optional_of flag location.now) (parent + 1) end store.now }
 {
     let mut at: usize = parent + 1;
     while at < end {
         let stop = seek::end_of(store, at + 1, end, Record::ATOM - level);
         if is_wanted(store, at, stop, level, serial, flag, location) {
-            return Span::At(at, stop);
+            return Some((at, stop));
         }
         at = stop;
     }
-    Span::Missing
+    None
 }
 
 // "In the first model: the first chain ..; in it the first such residue; in it the first conformer ..; its first such atom. Else
 // none." There is no going back: what a level takes is all that the next looks into.
-pub fn binary_find_atom(store: &[u64], serial: u64, flag: u64, location: &[u8]) -> LookedUp
+pub fn binary_find_atom(
+    store: &[u64],
+    serial: u64,
+    flag: u64,
+    location: &[u8],
+) -> Result<Option<RecordNumbers>, Refusal>
     requires { Good store.now }
     ensures { looked_up_numbers result ≡ lookup_numbers serial (optional_of flag location.now) (held store.now) }
 {
     if 1 < flag {
-        return LookedUp::Refused(answers::bad_name(Name::AlternativeLocation));
+        return Err(Name::AlternativeLocation.into());
     }
     let count = seek::record_count(store);
     if count == 0 {
-        return LookedUp::NotFound;
+        return Ok(None);
     }
     let end = seek::end_of(store, 1, count, Record::MODEL);
-    let Span::At(chain, end) = first_in(store, 0, end, 3, serial, flag, location) else {
-        return LookedUp::NotFound;
+    let Some((chain, end)) = first_in(store, 0, end, 3, serial, flag, location) else {
+        return Ok(None);
     };
-    let Span::At(residue, end) = first_in(store, chain, end, 2, serial, flag, location) else {
-        return LookedUp::NotFound;
+    let Some((residue, end)) = first_in(store, chain, end, 2, serial, flag, location) else {
+        return Ok(None);
     };
-    let Span::At(conformer, end) = first_in(store, residue, end, 1, serial, flag, location) else {
-        return LookedUp::NotFound;
+    let Some((conformer, end)) = first_in(store, residue, end, 1, serial, flag, location) else {
+        return Ok(None);
     };
-    let Span::At(atom, _) = first_in(store, conformer, end, 0, serial, flag, location) else {
-        return LookedUp::NotFound;
+    let Some((atom, _)) = first_in(store, conformer, end, 0, serial, flag, location) else {
+        return Ok(None);
     };
-    LookedUp::At(RecordNumbers {
+    Ok(Some(RecordNumbers {
         model: 0,
         chain: chain as u64,
         residue: residue as u64,
         conformer: conformer as u64,
         atom: atom as u64,
-    })
+    }))
 }

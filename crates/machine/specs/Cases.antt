@@ -1,9 +1,9 @@
 -- Document 01, "Worked cases, proved": one table of the definitions, one theorem. Assumes nothing.
-use Rattle.std.specs.Prelude.{ℕ, ◌-◌, ◌/◌, ◌%◌, ◌^◌, ◌≡◌, refl, List, [], ◌∷◌, ◌++◌, map, length, get_or, replicate}
+use Rattle.std.specs.Prelude.{ℕ, ◌-◌, ◌/◌, ◌%◌, ◌^◌, ◌≡◌, refl, List, [], ◌∷◌, ◌++◌, map, length, get_or, replicate, Err, Ok}
 use Prim.Native.String.{String}
 use Rattle.std.specs.Float.Ieee.{of_bits, sub, lt}
 use Rattle.machine.specs.Lists.{concat_map, bytes}
-use Rattle.machine.specs.Answer.{Result, ok, refused, refusal_number}
+use Rattle.machine.specs.Answer.{Result, refusal_number}
 use Rattle.machine.specs.Text.{packed, unpacked, without_zeros, text_of, trim_start, trim, chain_id, uppercase_or, atom_name, matches, stored_by, packed_text, Optional}
 use Rattle.machine.specs.Record.{Words, words, fields_of, good_values, good_fields, good_record, read_out}
 use Rattle.machine.specs.Store.{Machine, stored, flat, atom_count, laid, lay_out, in_order, good_layout, sections, group, read_store}
@@ -68,16 +68,16 @@ b_factor_node b = node 16 b 0
 
 -- the atoms found, by their record numbers; or the refusal
 abbrev pub atoms : Result (List (List ℕ)) → List ℕ
-atoms (ok hs) = map (λ (h : List ℕ). get_or h 4 0) hs
-atoms (refused r) = bytes "refused" ++ (refusal_number r ∷ [])
+atoms (Ok hs) = map (λ (h : List ℕ). get_or h 4 0) hs
+atoms (Err r) = bytes "refused" ++ (refusal_number r ∷ [])
 
 abbrev pub found : List ℕ → List ℕ → List ℕ
 found w t = atoms (hits_of w t)
 
 -- a count of the machine that a store's words hold
 abbrev pub counted : Result Machine → (Machine → ℕ) → ℕ
-counted (ok m) count = count m
-counted (refused r) count = 0
+counted (Ok m) count = count m
+counted (Err r) count = 0
 
 abbrev pub held : List ℕ → (Machine → ℕ) → ℕ
 held w count = counted (read_store w) count

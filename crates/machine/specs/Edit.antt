@@ -1,9 +1,8 @@
 -- Document 01, "Edits": the plain machine's calls, and a store's. Checks stand in the order of their refusals.
 -- Assumes nothing.
-use Rattle.std.specs.Prelude.{ℕ, zero, suc, ◌-◌, Bool, not, ◌&&◌, cond, List, [], ◌∷◌, ◌++◌, map, length, leb, eqb}
-use Rattle.std.proofs.Math.Option.{Option, none, some}
+use Rattle.std.specs.Prelude.{ℕ, zero, suc, ◌-◌, Bool, not, ◌&&◌, cond, List, [], ◌∷◌, ◌++◌, map, length, leb, eqb, Err, None, Ok, Option, Some}
 use Rattle.machine.specs.Lists.{is_empty, filter, nth, splice, first_where, last_where, and_then, same}
-use Rattle.machine.specs.Answer.{Result, ok, refused, ◌>>=◌, ◌>>◌, need, position, if_refused, bad_name, edited_numbers}
+use Rattle.machine.specs.Answer.{Result, ◌>>=◌, ◌>>◌, need, position, if_refused, bad_name, edited_numbers}
 use Rattle.machine.specs.Text.{Optional, chain_id, insertion_code, conformer_name, alternative_location, atom_name, optional, good_flag, matches, matches_optional}
 use Rattle.machine.specs.Record.{Fields, Atom, Conformer, Residue, Chain, is_element, good_values}
 use Rattle.machine.specs.Store.{Branch, Machine, records, stored, capacity, lay_out, read_store}
@@ -15,7 +14,6 @@ use Rattle.machine.specs.declared.Prepared.TheVariants.{Stored, Absent, Bad}
 use Rattle.machine.specs.declared.Name.{Name}
 use Rattle.machine.specs.declared.Name.TheVariants.{ChainId, InsertionCode, ConformerName, AlternativeLocation, AtomName}
 use Rattle.machine.specs.declared.Refusal.TheVariants.{BadValue, NoCapacity, JoinWithItself}
-use Rattle.machine.specs.declared.Edited as Edited
 use Rattle.machine.specs.declared.NewAtom.{NewAtom}
 use Rattle.machine.specs.declared.PreparedAddition.{PreparedAddition}
 
@@ -72,7 +70,7 @@ up (suc d) j = suc (up d j)
 
 -- the branch of level j at a position, d levels down
 unfoldable pub branch_at : (d j : ℕ) → List ℕ → List (Branch (up d j)) → Option (Branch j)
-branch_at d j [] ts = none
+branch_at d j [] ts = None
 branch_at zero j (i ∷ is) ts = nth i ts
 branch_at (suc d) j (i ∷ is) ts = and_then (nth i ts) (λ t. branch_at d j is t.1)
 
@@ -86,7 +84,7 @@ replace_at (suc d) j (i ∷ is) new ts = splice i (λ t. (t.0, replace_at d j is
 
 -- "8 records needed exceed capacity", in a store of n words
 abbrev pub fits : ℕ → Machine → Result Change
-fits n m = need (leb (length (records m)) (capacity n)) NoCapacity >> ok (changed m)
+fits n m = need (leb (length (records m)) (capacity n)) NoCapacity >> Ok (changed m)
 
 -- "Add model: appended, given serial."
 unfoldable pub add_model : ℕ → ℕ → Machine → Result Change
@@ -94,9 +92,9 @@ add_model n serial m = fits n (m ++ ((record { serial = serial }, []) ∷ []))
 
 -- a name that is bad has its own refusal; what is absent is stored as 0
 abbrev pub accept : Name → Prepared → Result ℕ
-accept n (Stored w) = ok w
-accept n Absent = ok 0
-accept n Bad = refused (bad_name n)
+accept n (Stored w) = Ok w
+accept n Absent = Ok 0
+accept n Bad = Err (bad_name n)
 
 -- "(chain, code, conformer, location, atom name)"; change request §2: "checked where 6 was checked for each"
 unfoldable pub prepare : Addition → Result PreparedAddition
@@ -106,7 +104,7 @@ prepare a = do
   conformer ← accept ConformerName (conformer_name a.conformer)
   location ← accept AlternativeLocation (optional alternative_location a.location)
   name ← accept AtomName (atom_name a.name)
-  ok (record { chain = chain; residue = a.residue; code = code; conformer = conformer; location = location; name = name; values = a.values })
+  Ok (record { chain = chain; residue = a.residue; code = code; conformer = conformer; location = location; name = name; values = a.values })
 
 -- the fields of what an addition may make anew
 abbrev pub new_chain : PreparedAddition → Chain
@@ -146,8 +144,8 @@ pick last p xs = last_where p xs
 
 -- "What is missing is appended."
 abbrev pub put_in : {A : Type 0} → Option ℕ → (A → A) → A → List A → List A
-put_in none f new xs = xs ++ (new ∷ [])
-put_in (some i) f new xs = splice i (λ x. f x ∷ []) xs
+put_in None f new xs = xs ++ (new ∷ [])
+put_in (Some i) f new xs = splice i (λ x. f x ∷ []) xs
 
 -- the first or last branch whose fields p accepts has its children changed by f; where there is none, a new one gets them
 unfoldable pub upsert : (k : ℕ) → Which → (Fields (suc k) → Bool) → Fields (suc k) → (List (Branch k) → List (Branch k)) → List (Branch (suc k)) → List (Branch (suc k))
@@ -185,7 +183,7 @@ add_atom n i a m = add_prepared n i (prepare a) m
 unfoldable pub remove_at : (d j : ℕ) → List ℕ → List (Branch (up d j)) → Result (List (Branch (up d j)))
 remove_at d j pos m = do
   position (branch_at d j pos m)
-  ok (replace_at d j pos [] m)
+  Ok (replace_at d j pos [] m)
 
 abbrev pub root : (k : ℕ) → Branch k → Fields k
 root zero a = a
@@ -197,18 +195,18 @@ with_children d j pos t ts m = replace_at d (suc j) pos ((t.0, ts) ∷ []) m
 
 -- "Remove the first by id within its parent": what stands at a position, without the child of index i. "None found: found 0"
 abbrev pub without : (d j : ℕ) → List ℕ → Branch (suc j) → Option ℕ → List (Branch (up d (suc j))) → ℕ × List (Branch (up d (suc j)))
-without d j pos t none m = (0, m)
-without d j pos t (some i) m = (1, with_children d j pos t (splice i (λ u. []) t.1) m)
+without d j pos t None m = (0, m)
+without d j pos t (Some i) m = (1, with_children d j pos t (splice i (λ u. []) t.1) m)
 
 -- the parent's position, what its flag gives, and the test of a child's fields
 unfoldable pub remove_first : (d j : ℕ) → List ℕ → Result (Unit {0}) → (Fields j → Bool) → List (Branch (up d (suc j))) → Result (ℕ × List (Branch (up d (suc j))))
 remove_first d j pos flag p m = do
   t ← position (branch_at d (suc j) pos m)
   flag
-  ok (without d j pos t (first_where (λ u. p (root j u)) t.1) m)
+  Ok (without d j pos t (first_where (λ u. p (root j u)) t.1) m)
 
 abbrev pub with_found : Result (ℕ × Machine) → Result Change
-with_found r = r >>= λ c. ok (record { found = c.0; after = c.1 })
+with_found r = r >>= λ c. Ok (record { found = c.0; after = c.1 })
 
 -- without the atoms at which p is false
 unfoldable pub keep_atoms : (k : ℕ) → (Atom → Bool) → List (Branch k) → List (Branch k)
@@ -220,7 +218,7 @@ unfoldable pub remove_atoms_by : ℕ → List ℕ → Machine → Result Change
 remove_atoms_by i tree m = do
   t ← position (branch_at 0 4 (i ∷ []) m)
   read_tree tree
-  ok (changed (with_children 0 3 (i ∷ []) t (keep_atoms 3 (λ a. not (is_true (tree_value (term_value tables (enter zero a nowhere)) tree))) t.1) m))
+  Ok (changed (with_children 0 3 (i ∷ []) t (keep_atoms 3 (λ a. not (is_true (tree_value (term_value tables (enter zero a nowhere)) tree))) t.1) m))
 
 -- "conformers without atoms, then residues without conformers, then chains without residues"
 unfoldable pub non_empty : (k : ℕ) → List (Branch k) → List (Branch k)
@@ -230,7 +228,7 @@ non_empty (suc k) ts = filter (λ t. not (is_empty t.1)) (map (λ t. (t.0, non_e
 unfoldable pub remove_empty : ℕ → Machine → Result Change
 remove_empty i m = do
   t ← position (branch_at 0 4 (i ∷ []) m)
-  ok (changed (with_children 0 3 (i ∷ []) t (non_empty 3 t.1) m))
+  Ok (changed (with_children 0 3 (i ∷ []) t (non_empty 3 t.1) m))
 
 -- ---- joins: "the second's children are put after the first's, and the second's own record goes. Nothing is merged."
 
@@ -240,10 +238,10 @@ join_at d j a b m = do
   t ← position (branch_at d (suc j) a m)
   u ← position (branch_at d (suc j) b m)
   need (not (same a b)) JoinWithItself
-  ok (replace_at d (suc j) b [] (with_children d j a t (t.1 ++ u.1) m))
+  Ok (replace_at d (suc j) b [] (with_children d j a t (t.1 ++ u.1) m))
 
 abbrev pub with_machine : Result Machine → Result Change
-with_machine r = r >>= λ m. ok (changed m)
+with_machine r = r >>= λ m. Ok (changed m)
 
 -- ---- one record's own fields
 
@@ -254,15 +252,15 @@ with_fields (suc k) f t = (f, t.1)
 
 -- found 1 where the branch at a position gets other fields, and found 0 where it stays as it is
 abbrev pub refielded : (d j : ℕ) → List ℕ → Branch j → Option (Fields j) → List (Branch (up d j)) → ℕ × List (Branch (up d j))
-refielded d j pos t none m = (0, m)
-refielded d j pos t (some f) m = (1, replace_at d j pos (with_fields j f t ∷ []) m)
+refielded d j pos t None m = (0, m)
+refielded d j pos t (Some f) m = (1, replace_at d j pos (with_fields j f t ∷ []) m)
 
 -- the position, then what f says of the fields there: a refusal, other fields, or none
 unfoldable pub set_at : (d j : ℕ) → List ℕ → (Fields j → Result (Option (Fields j))) → List (Branch (up d j)) → Result (ℕ × List (Branch (up d j)))
 set_at d j pos f m = do
   t ← position (branch_at d j pos m)
   o ← f (root j t)
-  ok (refielded d j pos t o m)
+  Ok (refielded d j pos t o m)
 
 abbrev pub with_element : ℕ → Atom → Atom
 with_element e a =
@@ -281,7 +279,7 @@ with_element e a =
 
 -- change request §6: "an element outside 1 to 118 gives 7"; "Setting it where one is present changes nothing and gives found 0."
 abbrev pub fill_in : ℕ → Atom → Result (Option Atom)
-fill_in e a = need (is_element e) BadValue >> ok (cond (eqb a.element 0) (some (with_element e a)) none)
+fill_in e a = need (is_element e) BadValue >> Ok (cond (eqb a.element 0) (Some (with_element e a)) None)
 
 -- ---- one call
 
@@ -293,12 +291,12 @@ machine_step n m (RemoveChain i c) = with_machine (remove_at 1 3 (i ∷ c ∷ []
 machine_step n m (RemoveResidue i c r) = with_machine (remove_at 2 2 (i ∷ c ∷ r ∷ []) m)
 machine_step n m (RemoveConformer i c r f) = with_machine (remove_at 3 1 (i ∷ c ∷ r ∷ f ∷ []) m)
 machine_step n m (RemoveAtom i c r f a) = with_machine (remove_at 4 0 (i ∷ c ∷ r ∷ f ∷ a ∷ []) m)
-machine_step n m (RemoveChainById i id) = with_found (remove_first 0 3 (i ∷ []) (ok tt) (λ c. matches id c.id) m)
+machine_step n m (RemoveChainById i id) = with_found (remove_first 0 3 (i ∷ []) (Ok tt) (λ c. matches id c.id) m)
 machine_step n m (RemoveResidueById i c serial code) =
     with_found (remove_first 1 2 (i ∷ c ∷ []) (need (good_flag code) (bad_name InsertionCode)) (λ r. eqb r.serial serial && matches_optional code r.code) m)
 machine_step n m (RemoveConformerById i c r name location) =
     with_found (remove_first 2 1 (i ∷ c ∷ r ∷ []) (need (good_flag location) (bad_name AlternativeLocation)) (λ f. matches name f.name && matches_optional location f.location) m)
-machine_step n m (RemoveAtomBySerialNumber i c r f serial) = with_found (remove_first 3 0 (i ∷ c ∷ r ∷ f ∷ []) (ok tt) (λ a. eqb a.serial serial) m)
+machine_step n m (RemoveAtomBySerialNumber i c r f serial) = with_found (remove_first 3 0 (i ∷ c ∷ r ∷ f ∷ []) (Ok tt) (λ a. eqb a.serial serial) m)
 machine_step n m (RemoveAtomsBy i tree) = remove_atoms_by i tree m
 machine_step n m (RemoveEmpty i) = remove_empty i m
 machine_step n m (JoinModels i i') = with_machine (join_at 0 3 (i ∷ []) (i' ∷ []) m)
@@ -309,22 +307,22 @@ machine_step n m (SetElement i c r f a e) = with_found (set_at 4 0 (i ∷ c ∷ 
 
 -- "removed, the atom records before minus those after; an addition gives removed 0", as natural numbers subtract
 abbrev pub answer : Machine → Result Change → List ℕ
-answer m (ok c) = edited_numbers (Edited.TheVariants.Done c.found (stored m - stored c.after))
-answer m (refused r) = edited_numbers (Edited.TheVariants.Refused r)
+answer m (Ok c) = edited_numbers (Ok (record { found = c.found; removed = stored m - stored c.after }))
+answer m (Err r) = edited_numbers (Err r)
 
 -- "A refused call leaves it as it was"
 abbrev pub next : Machine → Result Change → Machine
-next m (ok c) = c.after
-next m (refused r) = m
+next m (Ok c) = c.after
+next m (Err r) = m
 
 -- an edit of a store, as the answer's numbers and the words afterwards: what the words hold takes a step, and is laid out again; a
 -- refusal leaves the words
 unfoldable pub step_by : List ℕ → (Machine → Result Change) → List ℕ × List ℕ
 step_by w step =
-    if_refused (λ r. (edited_numbers (Edited.TheVariants.Refused r), w)) (do
+    if_refused (λ r. (edited_numbers (Err r), w)) (do
       m ← read_store w
       c ← step m
-      ok (answer m (ok c), lay_out (length w) c.after))
+      Ok (answer m (Ok c), lay_out (length w) c.after))
 
 -- one of the calls
 unfoldable pub store_step : List ℕ → Call → List ℕ × List ℕ

@@ -1,11 +1,11 @@
 -- Small examples beside document 01's ten cases, each telling a definition from a near miss: one table, one theorem.
 -- Assumes nothing.
-use Rattle.std.specs.Prelude.{ℕ, ◌*◌, ◌≡◌, refl, Bool, cond, List, [], ◌∷◌, ◌++◌, map, length, replicate}
+use Rattle.std.specs.Prelude.{ℕ, ◌*◌, ◌≡◌, refl, Bool, cond, List, [], ◌∷◌, ◌++◌, map, length, replicate, Err, Ok}
 use Prim.Native.String.{String}
 use Rattle.std.specs.Float.{binary64}
 use Rattle.std.specs.Float.Ieee.{of_bits, sub, lt}
 use Rattle.machine.specs.Lists.{bytes, concat_map}
-use Rattle.machine.specs.Answer.{Result, ok, refused, refusal_number}
+use Rattle.machine.specs.Answer.{Result, refusal_number}
 use Rattle.machine.specs.Text.{packed, pack, unpacked, without_zeros, text_of, trim_start, trim, chain_id, uppercase_or, atom_name, alternative_location, insertion_code, Optional, matches, matches_optional, stored_by, packed_text, before}
 use Rattle.machine.specs.Classes.{class_of_fields, class_of, class_of_value, finite_class}
 use Rattle.machine.specs.Record.{Words, words, fields_of, finite, good_values, good_fields, good_record, read_out}
@@ -46,8 +46,8 @@ classes b = place (class_of b) ∷ place (class_of_value (of_bits binary64 b)) �
 
 -- the refusal of a tree, or of a program's input; 0 for none
 abbrev refusal_of : {A : Type 0} → Result A → List ℕ
-refusal_of (ok x) = 0 ∷ []
-refusal_of (refused r) = refusal_number r ∷ []
+refusal_of (Ok x) = 0 ∷ []
+refusal_of (Err r) = refusal_number r ∷ []
 
 -- the answers to some calls on S
 abbrev on_s : List Call → List (List ℕ)

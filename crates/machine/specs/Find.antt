@@ -1,14 +1,12 @@
 -- Document 01, "Trees and find": the stored atoms with their places, and find. Nothing here knows of pruning. Assumes nothing.
-use Rattle.std.specs.Prelude.{ℕ, zero, suc, ◌+◌, ◌*◌, cond, List, [], ◌∷◌, ◌++◌, map, length, drop, leb}
-use Rattle.std.proofs.Math.Option.{Option, none, some}
+use Rattle.std.specs.Prelude.{ℕ, zero, suc, ◌+◌, ◌*◌, cond, List, [], ◌∷◌, ◌++◌, map, length, drop, leb, Err, None, Ok, Option, Some}
 use Rattle.machine.specs.Lists.{filter, nth, concat_map, concat_map_from, and_then}
-use Rattle.machine.specs.Answer.{Result, ok, refused, ◌>>=◌, ◌>>◌, position, found_numbers}
+use Rattle.machine.specs.Answer.{Result, ◌>>=◌, ◌>>◌, position, counted_numbers}
 use Rattle.machine.specs.Record.{Fields}
 use Rattle.machine.specs.Store.{Branch, Machine, flat, read_store}
 use Rattle.machine.specs.Kleene.{is_hit}
 use Rattle.machine.specs.Query.{Place, Names, window, read_tree, tree_value, term_value, tables}
 use Rattle.machine.specs.declared.Tri.{Tri}
-use Rattle.machine.specs.declared.Found as Found
 use Rattle.machine.specs.declared.Refusal.TheVariants.{ShortOutput}
 
 -- the record numbers from the model down, and what those records say
@@ -18,11 +16,11 @@ pub record Site : Type 0 where
 
 -- a place with the level k known too
 unfoldable pub enter : (k : ℕ) → Fields k → Place → Place
-enter zero a e = record { model = e.model; chain = e.chain; residue = e.residue; conformer = e.conformer; atom = some a }
-enter (suc zero) c e = record { model = e.model; chain = e.chain; residue = e.residue; conformer = some c; atom = e.atom }
-enter (suc (suc zero)) r e = record { model = e.model; chain = e.chain; residue = some r; conformer = e.conformer; atom = e.atom }
-enter (suc (suc (suc zero))) c e = record { model = e.model; chain = some c; residue = e.residue; conformer = e.conformer; atom = e.atom }
-enter (suc (suc (suc (suc zero)))) m e = record { model = some m; chain = e.chain; residue = e.residue; conformer = e.conformer; atom = e.atom }
+enter zero a e = record { model = e.model; chain = e.chain; residue = e.residue; conformer = e.conformer; atom = Some a }
+enter (suc zero) c e = record { model = e.model; chain = e.chain; residue = e.residue; conformer = Some c; atom = e.atom }
+enter (suc (suc zero)) r e = record { model = e.model; chain = e.chain; residue = Some r; conformer = e.conformer; atom = e.atom }
+enter (suc (suc (suc zero))) c e = record { model = e.model; chain = Some c; residue = e.residue; conformer = e.conformer; atom = e.atom }
+enter (suc (suc (suc (suc zero)))) m e = record { model = Some m; chain = e.chain; residue = e.residue; conformer = e.conformer; atom = e.atom }
 enter (suc (suc (suc (suc (suc k))))) u e = e
 
 -- the site of record n, right below another
@@ -30,7 +28,7 @@ abbrev pub below : (k : ℕ) → ℕ → Fields k → Site → Site
 below k n f s = record { numbers = s.numbers ++ (n ∷ []); place = enter k f s.place }
 
 abbrev pub nowhere : Place
-nowhere = record { model = none; chain = none; residue = none; conformer = none; atom = none }
+nowhere = record { model = None; chain = None; residue = None; conformer = None; atom = None }
 
 -- above the models
 abbrev pub top : Site
@@ -57,8 +55,8 @@ atoms_of m = concat_map_from (size 4) (atoms_in 4 top) 0 m
 -- change request §4: "stored atoms are then those under the start". A start is a position of none to four indexes, here among branches of level k that stand
 -- under s and are numbered from n on; where nothing stands at it there is no list. "Hits still name all five records": a site has the numbers above it too
 unfoldable pub atoms_under : (k : ℕ) → Site → ℕ → List ℕ → List (Branch k) → Option (List Site)
-atoms_under k s n [] ts = some (concat_map_from (size k) (atoms_in k s) n ts)
-atoms_under zero s n (i ∷ is) ts = none
+atoms_under k s n [] ts = Some (concat_map_from (size k) (atoms_in k s) n ts)
+atoms_under zero s n (i ∷ is) ts = None
 atoms_under (suc k) s n (i ∷ is) ts = and_then (nth i (numbered (suc k) n ts)) (λ t. atoms_under k (below (suc k) t.0 t.1.0 s) (suc t.0) is t.1.1)
 
 -- the start with no index is the whole machine
@@ -84,7 +82,7 @@ hits_from w start t = do
   m ← read_store w
   atoms ← position (atoms_from start m)
   read_tree t
-  ok (hits_among tables (lowest start) t atoms)
+  Ok (hits_among tables (lowest start) t atoms)
 
 -- on the whole store, "with the terms of all five levels at their values there"
 abbrev pub hits_of : List ℕ → List ℕ → Result (List (List ℕ))
@@ -95,11 +93,11 @@ hit_words hs = concat_map (λ (h : List ℕ). h) hs
 
 -- "10 output shorter than 5 words per hit", "Output words past the hits stay."
 abbrev pub written : List ℕ → Result (List (List ℕ)) → List ℕ × List ℕ
-written out (refused r) = (found_numbers (Found.TheVariants.Refused r), out)
-written out (ok hs) =
+written out (Err r) = (counted_numbers (Err r), out)
+written out (Ok hs) =
     cond (leb (5 * length hs) (length out))
-    (found_numbers (Found.TheVariants.Hits (length hs)), hit_words hs ++ drop (5 * length hs) out)
-    (found_numbers (Found.TheVariants.Refused ShortOutput), out)
+    (counted_numbers (Ok (length hs)), hit_words hs ++ drop (5 * length hs) out)
+    (counted_numbers (Err ShortOutput), out)
 
 -- find from a start: the answer's numbers, and the output's words afterwards
 unfoldable pub find_from : List ℕ → List ℕ → List ℕ → List ℕ → List ℕ × List ℕ

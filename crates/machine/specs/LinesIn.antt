@@ -1,8 +1,7 @@
 -- Change request §9, "PDB lines in": what the reader takes a text for. Each field is read from its columns whatever else stands there, and the
 -- whole is then written again by §1's definition: it must come out as it was. So "The reader takes exactly the text that the writer of §1,
 -- with §5, could make". Assumes nothing.
-use Rattle.std.specs.Prelude.{ℕ, zero, suc, ◌+◌, ◌-◌, ◌*◌, ◌/◌, ◌%◌, ◌^◌, Bool, ◌&&◌, cond, List, [], ◌∷◌, length, get_or, take, drop, leb, eqb}
-use Rattle.std.proofs.Math.Option.{Option, none, some}
+use Rattle.std.specs.Prelude.{ℕ, zero, suc, ◌+◌, ◌-◌, ◌*◌, ◌/◌, ◌%◌, ◌^◌, Bool, ◌&&◌, cond, List, [], ◌∷◌, length, get_or, take, drop, leb, eqb, None, Option, Some}
 use Rattle.machine.specs.Lists.{all, any, same, first_where}
 use Rattle.machine.specs.Text.{pack, trim}
 use Rattle.machine.specs.Record.{Model, good_fields}
@@ -45,8 +44,8 @@ unfoldable pub word : List ℕ → ℕ
 word t = pack (trim t)
 
 abbrev pub or_zero : Option ℕ → ℕ
-or_zero none = 0
-or_zero (some n) = n
+or_zero None = 0
+or_zero (Some n) = n
 
 -- the number of the element whose symbol stands so in its two columns; 0, a missing one, where there is none
 unfoldable pub element_of : List ℕ → ℕ
@@ -114,4 +113,4 @@ good_entry e = all good_line e.atoms
 unfoldable pub read_text : List ℕ → Option (List Entry)
 read_text t =
     let es = entries_in t in
-    cond (all good_entry es && (writable es && same (text_of_entries es) t)) (some es) none
+    cond (all good_entry es && (writable es && same (text_of_entries es) t)) (Some es) None

@@ -1,16 +1,15 @@
 -- Lists and options, as the other definitions use them. Assumes nothing.
-use Rattle.std.specs.Prelude.{ℕ, zero, suc, ◌+◌, Bool, true, false, ◌&&◌, ◌||◌, cond, List, [], ◌∷◌, ◌++◌, eqb}
+use Rattle.std.specs.Prelude.{ℕ, zero, suc, ◌+◌, Bool, true, false, ◌&&◌, ◌||◌, cond, List, [], ◌∷◌, ◌++◌, eqb, None, Option, Some, option_map}
 use Prim.Native.Char.{code}
 use Prim.Native.String.{String}
-use Rattle.std.proofs.Math.Option.{Option, none, some, map}
 
 abbrev pub or_else : {A : Type 0} → Option A → Option A → Option A
-or_else none o = o
-or_else (some x) o = some x
+or_else None o = o
+or_else (Some x) o = Some x
 
 abbrev pub is_some : {A : Type 0} → Option A → Bool
-is_some none = false
-is_some (some x) = true
+is_some None = false
+is_some (Some x) = true
 
 module _ {A : Type 0} where
   abbrev pub is_empty : List A → Bool
@@ -39,8 +38,8 @@ module _ {A : Type 0} where
   filter p (x ∷ xs) = keep (p x) x (filter p xs)
 
   abbrev pub nth : ℕ → List A → Option A
-  nth i [] = none
-  nth zero (x ∷ xs) = some x
+  nth i [] = None
+  nth zero (x ∷ xs) = Some x
   nth (suc i) (x ∷ xs) = nth i xs
 
   -- the element at index i gives way to the list that f makes of it
@@ -51,12 +50,12 @@ module _ {A : Type 0} where
 
   -- the index of the first element at which p holds, and of the last
   abbrev pub first_where : (A → Bool) → List A → Option ℕ
-  first_where p [] = none
-  first_where p (x ∷ xs) = cond (p x) (some 0) (map suc (first_where p xs))
+  first_where p [] = None
+  first_where p (x ∷ xs) = cond (p x) (Some 0) (option_map suc (first_where p xs))
 
   abbrev pub last_where : (A → Bool) → List A → Option ℕ
-  last_where p [] = none
-  last_where p (x ∷ xs) = or_else (map suc (last_where p xs)) (cond (p x) (some 0) none)
+  last_where p [] = None
+  last_where p (x ∷ xs) = or_else (option_map suc (last_where p xs)) (cond (p x) (Some 0) None)
 
   abbrev pub last_of : A → List A → A
   last_of x [] = x
@@ -73,8 +72,8 @@ module _ {A B : Type 0} where
   concat_map_from size f n (x ∷ xs) = f n x ++ concat_map_from size f (n + size x) xs
 
   abbrev pub and_then : Option A → (A → Option B) → Option B
-  and_then none f = none
-  and_then (some x) f = f x
+  and_then None f = None
+  and_then (Some x) f = f x
 
 abbrev pub same : List ℕ → List ℕ → Bool
 same [] [] = true

@@ -1,18 +1,16 @@
 -- Document 01, "Serial lookup". Assumes nothing.
-use Rattle.std.specs.Prelude.{ℕ, zero, suc, Bool, false, ◌&&◌, cond, List, [], ◌∷◌, leb, eqb}
-use Rattle.std.proofs.Math.Option.{Option, none, some}
+use Rattle.std.specs.Prelude.{ℕ, zero, suc, Bool, false, ◌&&◌, cond, List, [], ◌∷◌, leb, eqb, Err, None, Ok, Option, Some}
 use Rattle.machine.specs.Lists.{any, last_of, concat_map, and_then}
-use Rattle.machine.specs.Answer.{Result, ok, refused, ◌>>=◌, ◌>>◌, need, bad_name, looked_up_numbers}
+use Rattle.machine.specs.Answer.{Result, ◌>>=◌, ◌>>◌, need, bad_name, looked_up_numbers}
 use Rattle.machine.specs.Text.{Optional, good_flag, matches_optional}
 use Rattle.machine.specs.Store.{Branch, Machine, read_store}
 use Rattle.machine.specs.Find.{numbered}
 use Rattle.machine.specs.declared.Name.TheVariants.{AlternativeLocation}
 use Rattle.machine.specs.declared.RecordNumbers.{RecordNumbers}
-use Rattle.machine.specs.declared.LookedUp as LookedUp
 
 abbrev pub first_of : {A : Type 0} → (A → Bool) → List A → Option A
-first_of p [] = none
-first_of p (x ∷ xs) = cond (p x) (some x) (first_of p xs)
+first_of p [] = None
+first_of p (x ∷ xs) = cond (p x) (Some x) (first_of p xs)
 
 unfoldable pub serials : (k : ℕ) → Branch k → List ℕ
 serials zero a = a.serial ∷ []
@@ -38,21 +36,16 @@ lookup_in serial location model =
     and_then (first_child 2 (λ t. spans serial (serials 2 t)) chain) λ residue.
     and_then (first_child 1 (has_atom serial location) residue) λ conformer.
     and_then (first_child 0 (λ a. eqb serial a.serial) conformer) λ atom.
-    some (record { model = model.0; chain = chain.0; residue = residue.0; conformer = conformer.0; atom = atom.0 })
+    Some (record { model = model.0; chain = chain.0; residue = residue.0; conformer = conformer.0; atom = atom.0 })
 
 -- "in the first model"
 abbrev pub in_first : ℕ → Optional → Machine → Option RecordNumbers
-in_first serial location [] = none
+in_first serial location [] = None
 in_first serial location (t ∷ ts) = lookup_in serial location (0, t)
-
-abbrev pub looked_up : Result (Option RecordNumbers) → List ℕ
-looked_up (ok none) = looked_up_numbers LookedUp.TheVariants.NotFound
-looked_up (ok (some h)) = looked_up_numbers (LookedUp.TheVariants.At h)
-looked_up (refused r) = looked_up_numbers (LookedUp.TheVariants.Refused r)
 
 -- the answer's numbers; change request §2: "By-id removals and lookup answer a bad flag the same way."
 unfoldable pub lookup_run : List ℕ → ℕ → Optional → List ℕ
-lookup_run w serial location = looked_up do
+lookup_run w serial location = looked_up_numbers do
   m ← read_store w
   need (good_flag location) (bad_name AlternativeLocation)
-  ok (in_first serial location m)
+  Ok (in_first serial location m)

@@ -1,7 +1,7 @@
 -- Document 01, "The program `find`". Assumes nothing.
-use Rattle.std.specs.Prelude.{ℕ, zero, suc, ◌+◌, ◌-◌, ◌*◌, ◌/◌, ◌%◌, ◌&&◌, cond, List, [], ◌∷◌, ◌++◌, length, get_or, take, drop, leb, ltb, eqb}
+use Rattle.std.specs.Prelude.{ℕ, zero, suc, ◌+◌, ◌-◌, ◌*◌, ◌/◌, ◌%◌, ◌&&◌, cond, List, [], ◌∷◌, ◌++◌, length, get_or, take, drop, leb, ltb, eqb, Err, Ok}
 use Rattle.machine.specs.Lists.{concat_map, bytes}
-use Rattle.machine.specs.Answer.{Result, ok, refused, ◌>>=◌, ◌>>◌, need, refusal_number}
+use Rattle.machine.specs.Answer.{Result, ◌>>=◌, ◌>>◌, need, refusal_number}
 use Rattle.machine.specs.Find.{hits_of}
 use Rattle.machine.specs.declared.Refusal.TheVariants.{BadFile}
 
@@ -24,7 +24,7 @@ abbrev pub split : List ℕ → Result Input
 split ws =
     let last = length ws - 1 in
     let start = get_or ws last 0 in
-    need (leb start last) BadFile >> ok (record { store = take start ws; tree = take (last - start) (drop start ws) })
+    need (leb start last) BadFile >> Ok (record { store = take start ws; tree = take (last - start) (drop start ws) })
 
 -- "11: not a multiple of 8 bytes, empty, over 65,536 bytes, or a start above the last word's own index."
 unfoldable pub read_input : List ℕ → Result Input
@@ -55,8 +55,8 @@ spaced (n ∷ (m ∷ ns)) = decimal n ++ bytes " " ++ spaced (m ∷ ns)
 
 -- "It prints each hit as five decimals, then the count"; "A refusal prints `refused` and its number."
 unfoldable pub printed : Result (List (List ℕ)) → List ℕ
-printed (ok hs) = concat_map (λ (h : List ℕ). spaced h ++ newline) hs ++ bytes "found " ++ decimal (length hs) ++ newline
-printed (refused r) = bytes "refused " ++ decimal (refusal_number r) ++ newline
+printed (Ok hs) = concat_map (λ (h : List ℕ). spaced h ++ newline) hs ++ bytes "found " ++ decimal (length hs) ++ newline
+printed (Err r) = bytes "refused " ++ decimal (refusal_number r) ++ newline
 
 -- what the program writes, given what it reads
 unfoldable pub program_run : List ℕ → List ℕ

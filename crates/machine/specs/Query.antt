@@ -1,14 +1,13 @@
 -- Document 01, "Trees and find": a tree's nodes, its refusals, and its value. Assumes nothing.
-use Rattle.std.specs.Prelude.{ℕ, zero, suc, ◌%◌, Bool, true, false, not, ◌&&◌, cond, List, [], ◌∷◌, ◌++◌, map, length, leb, eqb, ℤ, negsuc, Float}
+use Rattle.std.specs.Prelude.{ℕ, zero, suc, ◌%◌, Bool, true, false, not, ◌&&◌, cond, List, [], ◌∷◌, ◌++◌, map, length, leb, eqb, ℤ, negsuc, Float, Err, None, Ok, Option, Some}
 use Prim.Native.String.{String}
-use Rattle.std.proofs.Math.Option.{Option, none, some}
 use Rattle.std.specs.Int.Signed.{le_z}
 use Rattle.std.specs.Float.{nan, inf, fin, binary64}
 use Rattle.std.specs.Float.Ieee.{of_bits, sub, lt, le}
 use Rattle.std.specs.Int.{w64}
 use Rattle.std.proofs.Common.{to_z}
 use Rattle.machine.specs.Lists.{any, nth, and_then, bytes}
-use Rattle.machine.specs.Answer.{Result, ok, refused, ◌>>=◌, ◌>>◌, need}
+use Rattle.machine.specs.Answer.{Result, ◌>>=◌, ◌>>◌, need}
 use Rattle.machine.specs.Text.{pack, packed_text}
 use Rattle.machine.specs.Record.{Model, Chain, Residue, Conformer, Atom, is_element, read_out}
 use Rattle.machine.specs.Kleene.{decided, not_t, apply_t}
@@ -85,22 +84,22 @@ codes =
     ∷ []
 
 abbrev pub code_at : ℕ → Option Code
-code_at zero = none
+code_at zero = None
 code_at (suc c) = nth c codes
 
 -- "4 unknown code or bad parameter"
 unfoldable pub node_of : ℕ → ℕ → ℕ → Result Node
-node_of c p q = elim (code_at c) [ none ↦ refused TreeNode | some k ↦ cond (good_parameter k.p p && good_parameter k.q q) (ok (k.node p q)) (refused TreeNode) ]
+node_of c p q = elim (code_at c) [ None ↦ Err TreeNode | Some k ↦ cond (good_parameter k.p p && good_parameter k.q q) (Ok (k.node p q)) (Err TreeNode) ]
 
 -- "3 words each: code, p, q"
 unfoldable pub nodes_of : List ℕ → Result (List Node)
-nodes_of [] = ok []
-nodes_of (c ∷ []) = refused TreeShape
-nodes_of (c ∷ p ∷ []) = refused TreeShape
+nodes_of [] = Ok []
+nodes_of (c ∷ []) = Err TreeShape
+nodes_of (c ∷ p ∷ []) = Err TreeShape
 nodes_of (c ∷ p ∷ q ∷ rest) = do
   n ← node_of c p q
   ns ← nodes_of rest
-  ok (n ∷ ns)
+  Ok (n ∷ ns)
 
 -- ---- postfix order: operands on a stack, the upper one being the right one; none where an operand is missing
 
@@ -108,30 +107,30 @@ abbrev pub Stack : Type 0
 Stack = Option (List Tri)
 
 abbrev pub negate : List Tri → Stack
-negate [] = none
-negate (a ∷ s) = some (not_t a ∷ s)
+negate [] = None
+negate (a ∷ s) = Some (not_t a ∷ s)
 
 abbrev pub combine : (Tri → Tri → Tri) → List Tri → Stack
-combine f [] = none
-combine f (b ∷ []) = none
-combine f (b ∷ a ∷ s) = some (f a b ∷ s)
+combine f [] = None
+combine f (b ∷ []) = None
+combine f (b ∷ a ∷ s) = Some (f a b ∷ s)
 
 -- one node, each term having the value that v gives it
 abbrev pub step : (Term → Tri) → Node → List Tri → Stack
-step v (Single t) s = some (v t ∷ s)
+step v (Single t) s = Some (v t ∷ s)
 step v (Binary o) s = combine (apply_t o) s
 step v Not s = negate s
-step v (Known b) s = some (decided b ∷ s)
+step v (Known b) s = Some (decided b ∷ s)
 
 unfoldable pub run : (Term → Tri) → List Node → List Tri → Stack
-run v [] s = some s
+run v [] s = Some s
 run v (n ∷ ns) s = and_then (step v n s) (run v ns)
 
 abbrev pub is_one : Stack → Bool
-is_one none = false
-is_one (some []) = false
-is_one (some (a ∷ [])) = true
-is_one (some (a ∷ b ∷ s)) = false
+is_one None = false
+is_one (Some []) = false
+is_one (Some (a ∷ [])) = true
+is_one (Some (a ∷ b ∷ s)) = false
 
 -- whether the nodes leave exactly one operand; that they then do so whatever the terms' values are is a law (`run-one`, `laws`, Trees)
 unfoldable pub leaves_one : List Node → Bool
@@ -143,18 +142,18 @@ read_tree t = do
   need (leb 3 (length t) && leb (length t) 381 && eqb (length t % 3) 0) TreeShape
   ns ← nodes_of t
   need (leaves_one ns) TreeShape
-  ok ns
+  Ok ns
 
 -- the one operand that is left; what isn't accepted as a tree has no value, and Undecided stands there
 abbrev pub the_one : Stack → Tri
-the_one none = Undecided
-the_one (some []) = Undecided
-the_one (some (a ∷ [])) = a
-the_one (some (a ∷ b ∷ s)) = Undecided
+the_one None = Undecided
+the_one (Some []) = Undecided
+the_one (Some (a ∷ [])) = a
+the_one (Some (a ∷ b ∷ s)) = Undecided
 
 abbrev pub value_of : (Term → Tri) → Result (List Node) → Tri
-value_of v (ok ns) = the_one (run v ns [])
-value_of v (refused r) = Undecided
+value_of v (Ok ns) = the_one (run v ns [])
+value_of v (Err r) = Undecided
 
 -- "A tree's value": from Kleene's tables, each term having the value that v gives it
 unfoldable pub tree_value : (Term → Tri) → List ℕ → Tri
@@ -182,7 +181,7 @@ pub record Place : Type 0 where
 
 abbrev pub only_if : {A : Type 0} → Bool → Option A → Option A
 only_if true o = o
-only_if false o = none
+only_if false o = None
 
 abbrev pub between : ℕ → ℕ → ℕ → Bool
 between low high n = leb low n && leb n high
@@ -200,8 +199,8 @@ window low high e =
 
 -- a test of a level that may be known
 abbrev pub known : {A : Type 0} → Option A → (A → Bool) → Tri
-known none f = Undecided
-known (some x) f = decided (f x)
+known None f = Undecided
+known (Some x) f = decided (f x)
 
 unfoldable pub drop_sign : Float → Float
 drop_sign nan = nan
@@ -225,8 +224,8 @@ between_f low high n = le low n && le n high
 
 -- "Element on an atom without one is undecided."
 abbrev pub element_is : ℕ → Option Atom → Tri
-element_is n none = Undecided
-element_is n (some a) = cond (eqb a.element 0) Undecided (decided (eqb a.element n))
+element_is n None = Undecided
+element_is n (Some a) = cond (eqb a.element 0) Undecided (decided (eqb a.element n))
 
 pub record Names : Type 0 where
   pub residues : List ℕ
@@ -237,8 +236,8 @@ member names w = any (eqb w) names
 
 -- "false where the conformer's name isn't among the 31 of `AMINO_ACIDS`"; else, or where the conformer isn't known, the second argument
 abbrev pub among_residues : Names → Option Conformer → Tri → Tri
-among_residues names none t = t
-among_residues names (some c) t = cond (member names.residues c.name) t False
+among_residues names None t = t
+among_residues names (Some c) t = cond (member names.residues c.name) t False
 
 -- change request §8, of Backbone and SideChain: "Hetero goes first: on a hetero atom" both "are false"
 abbrev pub hetero_first : Atom → Bool → Bool

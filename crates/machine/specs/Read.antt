@@ -1,8 +1,7 @@
 -- Change request §9, "PDB lines in": the reader. Assumes nothing.
-use Rattle.std.specs.Prelude.{ℕ, zero, suc, Bool, true, false, not, ◌&&◌, cond, List, [], ◌∷◌, ◌++◌, map, length, eqb}
-use Rattle.std.proofs.Math.Option.{Option, none, some}
+use Rattle.std.specs.Prelude.{ℕ, zero, suc, Bool, true, false, not, ◌&&◌, cond, List, [], ◌∷◌, ◌++◌, map, length, eqb, Err, None, Ok, Option, Some}
 use Rattle.machine.specs.Lists.{is_empty, all, any}
-use Rattle.machine.specs.Answer.{Result, ok, refused, ◌>>=◌, ◌>>◌, need, if_refused, opened_numbers}
+use Rattle.machine.specs.Answer.{Result, ◌>>=◌, ◌>>◌, need, if_refused, opened_numbers}
 use Rattle.machine.specs.Text.{Optional, optional_of, text_of}
 use Rattle.machine.specs.Record.{Fields}
 use Rattle.machine.specs.Store.{Branch, Machine, good_length, lay_out}
@@ -10,7 +9,6 @@ use Rattle.machine.specs.Edit.{Addition, addition, Call, AddModel, AddAtom, mach
 use Rattle.machine.specs.Lines.{AtomLine, Entry}
 use Rattle.machine.specs.LinesIn.{read_text}
 use Rattle.machine.specs.declared.Refusal.TheVariants.{BadLength, BadText}
-use Rattle.machine.specs.declared.Opened as Opened
 
 -- ---- "builds by model and atom additions"
 
@@ -42,7 +40,7 @@ calls_from i (e ∷ es) = AddModel e.model.serial ∷ (map (λ l. AddAtom i (add
 
 -- calls one after the other in a store of n words, up to the first that is refused
 unfoldable pub run_calls : ℕ → Machine → List Call → Result Machine
-run_calls n m [] = ok m
+run_calls n m [] = Ok m
 run_calls n m (c ∷ cs) = do
   change ← machine_step n m c
   run_calls n change.after cs
@@ -51,8 +49,8 @@ run_calls n m (c ∷ cs) = do
 
 -- "Any other text gives 17"
 abbrev pub or_bad_text : Option (List Entry) → Result (List Entry)
-or_bad_text none = refused BadText
-or_bad_text (some es) = ok es
+or_bad_text None = Err BadText
+or_bad_text (Some es) = Ok es
 
 -- what a text gives in a store of n words: 1, "17, before 8"
 unfoldable pub text_machine : ℕ → List ℕ → Result Machine
@@ -65,9 +63,9 @@ text_machine n t = do
 -- refuses without touching it."
 unfoldable pub read_run : List ℕ → List ℕ → List ℕ × List ℕ
 read_run t w =
-    if_refused (λ r. (opened_numbers (Opened.TheVariants.Refused r), w)) (do
+    if_refused (λ r. (opened_numbers (Err r), w)) (do
       m ← text_machine (length w) t
-      ok (opened_numbers Opened.TheVariants.Done, lay_out (length w) m))
+      Ok (opened_numbers (Ok tt), lay_out (length w) m))
 
 -- ---- the structures that come back as they were
 

@@ -1,11 +1,10 @@
 -- Document 01, "Store", and the structure of "Edits": the plain machine, its words, and what a store's words hold.
 -- Assumes nothing.
-use Rattle.std.specs.Prelude.{ℕ, zero, suc, ◌+◌, ◌-◌, ◌/◌, ◌%◌, Bool, true, false, ◌&&◌, cond, List, [], ◌∷◌, ◌++◌, map, length, get_or, take, drop, replicate, leb, eqb}
+use Rattle.std.specs.Prelude.{ℕ, zero, suc, ◌+◌, ◌-◌, ◌/◌, ◌%◌, Bool, true, false, ◌&&◌, cond, List, [], ◌∷◌, ◌++◌, map, length, get_or, take, drop, replicate, leb, eqb, Ok, Err}
 use Rattle.machine.specs.Lists.{all, sum, concat_map}
-use Rattle.machine.specs.Answer.{Result, ok, ◌>>◌, need, opened_numbers}
+use Rattle.machine.specs.Answer.{Result, ◌>>◌, need, opened_numbers}
 use Rattle.machine.specs.Record.{Fields, Words, words, kind, fields_of, good_record}
 use Rattle.machine.specs.declared.Refusal.TheVariants.{BadLength, BrokenLayout}
-use Rattle.machine.specs.declared.Opened as Opened
 
 -- ---- the structure
 
@@ -102,12 +101,12 @@ unfoldable pub read_store : List ℕ → Result Machine
 read_store w = do
   need (good_length (length w)) BadLength
   need (good_layout w) BrokenLayout
-  ok (group 4 (records_of w))
+  Ok (group 4 (records_of w))
 
 -- ---- opening
 
 -- "Opening sets every word to 0", "Opening refuses only with 1": the answer's numbers, and the words afterwards
 unfoldable pub open_run : List ℕ → List ℕ × List ℕ
 open_run w =
-    cond (good_length (length w)) (opened_numbers Opened.TheVariants.Done, replicate (length w) 0)
-    (opened_numbers (Opened.TheVariants.Refused BadLength), w)
+    cond (good_length (length w)) (opened_numbers (Ok tt), replicate (length w) 0)
+    (opened_numbers (Err BadLength), w)

@@ -1,6 +1,9 @@
 // The types that the definitions of specs/ go by, and a record's numbers. Names are pdbtbx's where it has one.
 #![tactic(auto)]
 
+ghost use Rattle.std.specs.Prelude.{◌≡◌};
+ghost use Rattle.machine.specs.Answer.{refusal_number, bad_name, result_number, edited_numbers, counted_numbers, looked_up_numbers, edit_fields, find_fields, write_fields, apply_fields, lookup_fields};
+
 // Kleene's three values.
 #[derive(Clone, Copy)]
 pub enum Tri {
@@ -200,38 +203,55 @@ pub enum Refusal {
     ShortAnswers,
 }
 
-#[derive(Clone, Copy)]
-pub enum Opened {
-    Done,
-    Refused(Refusal),
+// "Refusal numbers by their cause"
+impl From<Refusal> for u64 {
+    ghost from_gives = { λ r n. n ≡ refusal_number r };
+
+    fn from(r: Refusal) -> u64 {
+        match r {
+            Refusal::BadLength => 1,
+            Refusal::BrokenLayout => 2,
+            Refusal::TreeShape => 3,
+            Refusal::TreeNode => 4,
+            Refusal::NoPosition => 5,
+            Refusal::BadIdentifier => 6,
+            Refusal::BadValue => 7,
+            Refusal::NoCapacity => 8,
+            Refusal::JoinWithItself => 9,
+            Refusal::ShortOutput => 10,
+            Refusal::BadFile => 11,
+            Refusal::TooWide => 12,
+            Refusal::ShortText => 13,
+            Refusal::BadInsertionCode => 14,
+            Refusal::BadConformer => 15,
+            Refusal::BadAtomName => 16,
+            Refusal::BadText => 17,
+            Refusal::BadList => 22,
+            Refusal::ShortAnswers => 23,
+        }
+    }
 }
 
-// Found, and the atoms removed.
-#[derive(Clone, Copy)]
-pub enum Edited {
-    Done(u64, u64),
-    Refused(Refusal),
+// Which name was bad (change request §2).
+impl From<Name> for Refusal {
+    ghost from_gives = { λ n r. r ≡ bad_name n };
+
+    fn from(n: Name) -> Refusal {
+        match n {
+            Name::ChainId => Refusal::BadIdentifier,
+            Name::InsertionCode => Refusal::BadInsertionCode,
+            Name::ConformerName => Refusal::BadConformer,
+            Name::AlternativeLocation => Refusal::BadConformer,
+            Name::AtomName => Refusal::BadAtomName,
+        }
+    }
 }
 
-// The number of hits.
+// What an edit did: whether it found what it was to change, and the atoms removed.
 #[derive(Clone, Copy)]
-pub enum Found {
-    Hits(u64),
-    Refused(Refusal),
-}
-
-// The length of a text in bytes.
-#[derive(Clone, Copy)]
-pub enum Written {
-    Bytes(u64),
-    Refused(Refusal),
-}
-
-// The number of edits in a list.
-#[derive(Clone, Copy)]
-pub enum Applied {
-    Done(u64),
-    Refused(Refusal),
+pub struct Edited {
+    pub found: u64,
+    pub removed: u64,
 }
 
 // The record numbers of an atom and of what it stands under.
@@ -244,14 +264,17 @@ pub struct RecordNumbers {
     pub atom: u64,
 }
 
-#[derive(Clone, Copy)]
-pub enum LookedUp {
-    At(RecordNumbers),
-    NotFound,
-    Refused(Refusal),
-}
-
 // ---- answers as their fields: "A result is 0 with its fields, or one of these."
+
+// The number of an answer that has no fields of its own.
+pub fn number_of<T: Copy>(r: Result<T, Refusal>) -> u64
+    ensures { result ≡ result_number r }
+{
+    match r {
+        Ok(_) => 0,
+        Err(refusal) => refusal.into(),
+    }
+}
 
 #[repr(C)]
 #[derive(Clone, Copy)]
@@ -261,11 +284,44 @@ pub struct EditAnswer {
     pub removed: u64,
 }
 
+impl From<Result<Edited, Refusal>> for EditAnswer {
+    ghost from_gives = { λ r a. edit_fields a ≡ edited_numbers r };
+
+    fn from(r: Result<Edited, Refusal>) -> EditAnswer {
+        match r {
+            Ok(edited) => EditAnswer {
+                result: 0,
+                found: edited.found,
+                removed: edited.removed,
+            },
+            Err(refusal) => EditAnswer {
+                result: refusal.into(),
+                found: 0,
+                removed: 0,
+            },
+        }
+    }
+}
+
 #[repr(C)]
 #[derive(Clone, Copy)]
 pub struct FindAnswer {
     pub result: u64,
     pub hits: u64,
+}
+
+impl From<Result<u64, Refusal>> for FindAnswer {
+    ghost from_gives = { λ r a. find_fields a ≡ counted_numbers r };
+
+    fn from(r: Result<u64, Refusal>) -> FindAnswer {
+        match r {
+            Ok(hits) => FindAnswer { result: 0, hits },
+            Err(refusal) => FindAnswer {
+                result: refusal.into(),
+                hits: 0,
+            },
+        }
+    }
 }
 
 #[repr(C)]
@@ -275,11 +331,39 @@ pub struct WriteAnswer {
     pub length: u64,
 }
 
+impl From<Result<u64, Refusal>> for WriteAnswer {
+    ghost from_gives = { λ r a. write_fields a ≡ counted_numbers r };
+
+    fn from(r: Result<u64, Refusal>) -> WriteAnswer {
+        match r {
+            Ok(length) => WriteAnswer { result: 0, length },
+            Err(refusal) => WriteAnswer {
+                result: refusal.into(),
+                length: 0,
+            },
+        }
+    }
+}
+
 #[repr(C)]
 #[derive(Clone, Copy)]
 pub struct ApplyAnswer {
     pub result: u64,
     pub calls: u64,
+}
+
+impl From<Result<u64, Refusal>> for ApplyAnswer {
+    ghost from_gives = { λ r a. apply_fields a ≡ counted_numbers r };
+
+    fn from(r: Result<u64, Refusal>) -> ApplyAnswer {
+        match r {
+            Ok(calls) => ApplyAnswer { result: 0, calls },
+            Err(refusal) => ApplyAnswer {
+                result: refusal.into(),
+                calls: 0,
+            },
+        }
+    }
 }
 
 #[repr(C)]
@@ -292,4 +376,40 @@ pub struct LookupAnswer {
     pub residue: u64,
     pub conformer: u64,
     pub atom: u64,
+}
+
+impl LookupAnswer {
+    fn without_place(number: u64) -> LookupAnswer
+        ensures { result ≡ record { result = number; found = 0; model = 0; chain = 0; residue = 0; conformer = 0; atom = 0 } }
+    {
+        LookupAnswer {
+            result: number,
+            found: 0,
+            model: 0,
+            chain: 0,
+            residue: 0,
+            conformer: 0,
+            atom: 0,
+        }
+    }
+}
+
+impl From<Result<Option<RecordNumbers>, Refusal>> for LookupAnswer {
+    ghost from_gives = { λ r a. lookup_fields a ≡ looked_up_numbers r };
+
+    fn from(r: Result<Option<RecordNumbers>, Refusal>) -> LookupAnswer {
+        match r {
+            Ok(Some(at)) => LookupAnswer {
+                result: 0,
+                found: 1,
+                model: at.model,
+                chain: at.chain,
+                residue: at.residue,
+                conformer: at.conformer,
+                atom: at.atom,
+            },
+            Ok(None) => LookupAnswer::without_place(0),
+            Err(refusal) => LookupAnswer::without_place(refusal.into()),
+        }
+    }
 }

@@ -5,12 +5,14 @@ use mathlib.Core.List.{List, [], ◌∷◌, ◌++◌, append_assoc}
 use native.Mathlib.Omega.{arith}
 use lib.ListN.{length, take, drop, get_or, set, replicate, length-append, length-take, length-drop, length-replicate, take-append-drop, replicate-append-replicate}
 use lib.Seq.{length-take-le, take_at, drop_at, drop-cons, set_at}
+use Rattle.std.specs.List.{between}
+use Rattle.std.proofs.lemmas.List.Edits.{length-between, split_between}
 use Rattle.machine.specs.Record.{Words}
 use Rattle.machine.specs.Store.{laid}
 use Rattle.laws.specs.Lists.{All-append, All-left, All-right, concat_map-append}
 use Rattle.laws.specs.Grouped.{concat, concat-length}
-use Rattle.moves.specs.Over.{over, part, taken_out, gapped, rotated, Twelve}
-use Rattle.moves.proofs.Laws.{part_length, rotated-length, split-two, split-three, over-length, over-at, taken_out-at, gapped-at, rotated-at}
+use Rattle.moves.specs.Over.{over, taken_out, gapped, rotated, Twelve}
+use Rattle.moves.proofs.Laws.{rotated-length, split-three, over-length, over-at, taken_out-at, gapped-at, rotated-at}
 
 pub twelve-take : (x : ℕ) (rs : List Words) → Twelve rs → Twelve (take x rs)
 twelve-take x rs t = All-left _ (take x rs) (drop x rs) (rw take-append-drop t)
@@ -18,9 +20,8 @@ twelve-take x rs t = All-left _ (take x rs) (drop x rs) (rw take-append-drop t)
 pub twelve-drop : (x : ℕ) (rs : List Words) → Twelve rs → Twelve (drop x rs)
 twelve-drop x rs t = All-right _ (take x rs) (drop x rs) (rw take-append-drop t)
 
-pub twelve-part : (x y : ℕ) (rs : List Words) → Twelve rs → Twelve (part x y rs)
-unfolding part
-twelve-part x y rs t = twelve-take (y - x) (drop x rs) (twelve-drop x rs t)
+twelve-between : (x y : ℕ) (rs : List Words) → Twelve rs → Twelve (between x y rs)
+twelve-between x y rs t = twelve-take (y - x) (drop x rs) (twelve-drop x rs t)
 
 pub twelve-over : (x : ℕ) (new rs : List Words) → Twelve new → Twelve rs → Twelve (over x new rs)
 unfolding over
@@ -31,7 +32,7 @@ pub twelve-rotated : (a m b : ℕ) (rs : List Words) → Twelve rs → Twelve (r
 unfolding rotated
 twelve-rotated a m b rs t =
     All-append _ (take a rs) _ (twelve-take a rs t)
-    (All-append _ (part m b rs) _ (twelve-part m b rs t) (All-append _ (part a m rs) _ (twelve-part a m rs t) (twelve-drop b rs t)))
+    (All-append _ (between m b rs) _ (twelve-between m b rs t) (All-append _ (between a m rs) _ (twelve-between a m rs t) (twelve-drop b rs t)))
 
 pub concat-append : (xs ys : List Words) → concat (xs ++ ys) ≡ concat xs ++ concat ys
 concat-append xs ys = concat_map-append (λ (r : Words). r) xs ys
@@ -58,9 +59,6 @@ module _ (rs : List Words) (rest : List ℕ) (t : Twelve rs) (x : ℕ) (h : x �
 
   first-words : length (concat (take x rs)) ≡ 12 * x
   first-words = omega (arith, concat-length (take x rs) (twelve-take x rs t), length-take-le x rs h)
-
-  pub take-records : take (12 * x) (concat rs ++ rest) ≡ concat (take x rs)
-  take-records = ap (take (12 * x)) halves ∙ take_at (concat (take x rs)) _ (12 * x) first-words
 
   pub drop-records : drop (12 * x) (concat rs ++ rest) ≡ concat (drop x rs) ++ rest
   drop-records = ap (drop (12 * x)) halves ∙ drop_at (concat (take x rs)) _ (12 * x) first-words
@@ -121,10 +119,10 @@ module _ (rs : List Words) (rest : List ℕ) (t : Twelve rs) where
   pub remove-records : (x y : ℕ) → x ≤ y → y ≤ length rs
       → taken_out (12 * x) (12 * y) (12 * length rs) (concat rs ++ rest) ≡ concat (take x rs ++ drop y rs) ++ (replicate (12 * (y - x)) 0 ++ rest)
   remove-records x y l h =
-      let e = split-two x y rs l in
+      let e = split_between rs x y l in
       ap (λ (v : List Words). taken_out (12 * x) (12 * y) (12 * length rs) (concat v ++ rest)) e
-      ∙ remove-blocks (take x rs) (part x y rs) (drop y rs) rest (subst Twelve e t) x y (length rs) (length-take-le x rs (omega arith))
-      (omega (arith, part_length x y rs h)) (omega (arith, length-drop y rs))
+      ∙ remove-blocks (take x rs) (between x y rs) (drop y rs) rest (subst Twelve e t) x y (length rs) (length-take-le x rs (omega arith))
+      (omega (arith, length-between rs x y h)) (omega (arith, length-drop y rs))
 
   pub insert-records : (room : List ℕ) (x n : ℕ) → x ≤ length rs → length room ≡ 12 * n
       → gapped (12 * x) (12 * n) (12 * length rs) (concat rs ++ (room ++ rest)) ≡ concat (take x rs ++ (blank n ++ drop x rs)) ++ rest
@@ -138,8 +136,8 @@ module _ (rs : List Words) (rest : List ℕ) (t : Twelve rs) where
   unfolding rotated
   rotate-records a m b l k h =
       let p : List Words = take a rs in
-      let x : List Words = part a m rs in
-      let y : List Words = part m b rs in
+      let x : List Words = between a m rs in
+      let y : List Words = between m b rs in
       let q : List Words = drop b rs in
       let e : rs ≡ p ++ (x ++ y) ++ q = split-three a m b rs l k ∙ simp append_assoc in
       let f : concat (p ++ (x ++ y) ++ q) ++ rest ≡ concat (p ++ (x ++ y)) ++ (concat q ++ rest) = simp (concat-append, append_assoc) in
@@ -147,17 +145,17 @@ module _ (rs : List Words) (rest : List ℕ) (t : Twelve rs) where
       ap (λ (v : List Words). rotated (12 * a) (12 * m) (12 * b) (concat v ++ rest)) e
       ∙ ap (rotated (12 * a) (12 * m) (12 * b)) f
       ∙ rotate-blocks p x y (concat q ++ rest) (All-left _ (p ++ (x ++ y)) q (subst Twelve e t)) a m b (length-take-le a rs (omega arith))
-      (omega (arith, part_length a m rs (omega arith))) (omega (arith, part_length m b rs h))
+      (omega (arith, length-between rs a m (omega arith))) (omega (arith, length-between rs m b h))
       ∙ g
 
   pub write-records : (new : List Words) (x : ℕ) → Twelve new → x + length new ≤ length rs
       → over (12 * x) (concat new) (concat rs ++ rest) ≡ concat (over x new rs) ++ rest
   unfolding over
   write-records new x tn h =
-      let e = split-two x (x + length new) rs (omega arith) in
-      let l : length (part x (x + length new) rs) ≡ x + length new - x = part_length x (x + length new) rs h in
+      let e = split_between rs x (x + length new) (omega arith) in
+      let l : length (between x (x + length new) rs) ≡ x + length new - x = length-between rs x (x + length new) h in
       ap (λ (v : List Words). over (12 * x) (concat new) (concat v ++ rest)) e
-      ∙ write-blocks (take x rs) (part x (x + length new) rs) (drop (x + length new) rs) rest (subst Twelve e t) x (x + length new) (length rs)
+      ∙ write-blocks (take x rs) (between x (x + length new) rs) (drop (x + length new) rs) rest (subst Twelve e t) x (x + length new) (length rs)
       (length-take-le x rs (omega arith)) (omega arith) (omega (arith, length-drop (x + length new) rs)) new tn (omega arith)
 
 -- ---- the same in a store's words: records, then zeros, then the word index at which the records end

@@ -1,45 +1,25 @@
 // Words moved, cleared and exchanged inside a lent slice, in place.
-#![tactic(auto)]
+#![tactic(auto, using(crate::proofs::Returns::returned))]
 
 ghost use Rattle.std.specs.Prelude.{◌≡◌, ◌+◌, ◌≤◌, length, take, drop, replicate};
-ghost use Rattle.moves.specs.Over.{over, taken_out, gapped, reversed, rotated};
+ghost use Rattle.moves.specs.Over.{over, taken_out, gapped, rotated};
 
 use machine::Record;
 
-// The words of `from` are written over those at `at`.
-pub fn write_over(s: &mut [u64], at: usize, from: &[u64])
+// The elements of `from` are written over those at `at`.
+pub fn write_over<T: Copy>(s: &mut [T], at: usize, from: &[T])
     requires { at + length from.now ≤ length s.old }
     ensures { s.new ≡ over at from.now s.old }
 {
-    let mut written: usize = 0;
-    while written < from.len() {
-        s[at + written] = from[written];
-        written += 1;
-    }
+    s[at..at + from.len()].copy_from_slice(from);
 }
 
-// The n words from `from` go to `to`, which is not above it: from the first to the last, so that none is lost.
-pub fn move_down(s: &mut [u64], from: usize, to: usize, n: usize)
-    requires { (to ≤ from) × (from + n ≤ length s.old) }
+// The n words from `from` go to `to`, which may be on either side, also where the two places overlap.
+pub fn move_words(s: &mut [u64], from: usize, to: usize, n: usize)
+    requires { (from + n ≤ length s.old) × (to + n ≤ length s.old) }
     ensures { s.new ≡ over to (take n (drop from s.old)) s.old }
 {
-    let mut moved: usize = 0;
-    while moved < n {
-        s[to + moved] = s[from + moved];
-        moved += 1;
-    }
-}
-
-// The n words from `from` go to `to`, which is not below it: from the last to the first.
-pub fn move_up(s: &mut [u64], from: usize, to: usize, n: usize)
-    requires { (from ≤ to) × (to + n ≤ length s.old) }
-    ensures { s.new ≡ over to (take n (drop from s.old)) s.old }
-{
-    let mut left = n;
-    while 0 < left {
-        left -= 1;
-        s[to + left] = s[from + left];
-    }
+    s.copy_within(from..from + n, to);
 }
 
 // The n words from `from` become zeros.
@@ -47,19 +27,18 @@ pub fn clear(s: &mut [u64], from: usize, n: usize)
     requires { from + n ≤ length s.old }
     ensures { s.new ≡ over from (replicate n 0) s.old }
 {
-    let mut cleared: usize = 0;
-    while cleared < n {
-        s[from + cleared] = 0;
-        cleared += 1;
-    }
+    s[from..from + n].fill(0);
 }
 
-// One record goes down, as a record that a compaction keeps does.
-pub fn keep_record(s: &mut [u64], from: usize, to: usize)
-    requires { (to ≤ from) × (from + 12 ≤ length s.old) }
+// One record goes to `to`, unless it stands there already. Inlined, since a compaction does it for each record that it keeps.
+#[inline(always)]
+pub fn move_record(s: &mut [u64], from: usize, to: usize)
+    requires { (from + 12 ≤ length s.old) × (to + 12 ≤ length s.old) }
     ensures { s.new ≡ over to (take 12 (drop from s.old)) s.old }
 {
-    move_down(s, from, to, Record::WIDTH);
+    if from != to {
+        move_words(s, from, to, Record::WIDTH);
+    }
 }
 
 // The words from `from` to `to` go, those up to `end` move down, and zeros fill what that leaves below `end`.
@@ -67,7 +46,7 @@ pub fn remove_words(s: &mut [u64], from: usize, to: usize, end: usize)
     requires { (from ≤ to) × (to ≤ end) × (end ≤ length s.old) }
     ensures { s.new ≡ taken_out from to end s.old }
 {
-    move_down(s, to, from, end - to);
+    move_words(s, to, from, end - to);
     clear(s, from + (end - to), to - from);
 }
 
@@ -76,32 +55,14 @@ pub fn insert_gap(s: &mut [u64], at: usize, n: usize, end: usize)
     requires { (at ≤ end) × (end + n ≤ length s.old) }
     ensures { s.new ≡ gapped at n end s.old }
 {
-    move_up(s, at, at + n, end - at);
+    move_words(s, at, at + n, end - at);
     clear(s, at, n);
 }
 
-// The words from `from` to `to` in the opposite order.
-fn reverse(s: &mut [u64], from: usize, to: usize)
-    requires { (from ≤ to) × (to ≤ length s.old) }
-    ensures { s.new ≡ reversed from to s.old }
-{
-    let mut i = from;
-    let mut j = to;
-    while i + 1 < j {
-        j -= 1;
-        let x = s[i];
-        s[i] = s[j];
-        s[j] = x;
-        i += 1;
-    }
-}
-
-// The words from a to m and those from m to b exchange places: reversed each, and then together.
+// The words from a to m and those from m to b exchange places.
 pub fn rotate(s: &mut [u64], a: usize, m: usize, b: usize)
     requires { (a ≤ m) × (m ≤ b) × (b ≤ length s.old) }
     ensures { s.new ≡ rotated a m b s.old }
 {
-    reverse(s, a, m);
-    reverse(s, m, b);
-    reverse(s, a, b);
+    s[a..b].rotate_left(m - a);
 }

@@ -1,9 +1,9 @@
 -- A call that document 01's machine accepts lies in the domain, and the crate doesn't panic on it: the two take the same steps. Assumes nothing.
+use Rattle.std.specs.Prelude.{Err, None, Ok, Option, Some, option_map}
 use Rattle.std.proofs.Common.{◌≡◌, ℕ, zero, suc, ◌≤◌, Bool, true, false, not, ◌&&◌, eqb, leb, List, [], ◌∷◌, ◌++◌, refl, ap, ◌∙◌, arith, leb-true}
 use mathlib.Core.Bool.{false≢true}
-use mathlib.Core.Option.{Option, none, some, map}
 use Rattle.machine.specs.Lists.{all, same, nth, splice, and_then}
-use Rattle.machine.specs.Answer.{Result, ok, refused, ◌>>◌, need, position, bad_name}
+use Rattle.machine.specs.Answer.{Result, ◌>>◌, need, position, bad_name}
 use Rattle.machine.specs.Text.{good_flag, matches, matches_optional}
 use Rattle.machine.specs.Record.{Fields, is_element, good_values}
 use Rattle.machine.specs.Store.{Branch, Machine}
@@ -34,17 +34,17 @@ use Rattle.pdbtbx.proofs.Accepted.{bind_ok, fine}
 
 -- ---- results
 
-then_ok : {A B : Type 0} (r : Result A) (x : Result B) (y : B) → (r >> x) ≡ ok y → (a : A) × (r ≡ ok a) × (x ≡ ok y)
-then_ok (ok a) x y h = (a, refl, h)
-then_ok (refused c) x y h = let z : ◌≡◌ {A = ℕ} 0 1 = cc in absurd (omega arith)
+then_ok : {A B : Type 0} (r : Result A) (x : Result B) (y : B) → (r >> x) ≡ Ok y → (a : A) × (r ≡ Ok a) × (x ≡ Ok y)
+then_ok (Ok a) x y h = (a, refl, h)
+then_ok (Err c) x y h = let z : ◌≡◌ {A = ℕ} 0 1 = cc in absurd (omega arith)
 
-need-ok : (b : Bool) (c : Refusal) (u : Unit {0}) → need b c ≡ ok u → b ≡ true
+need-ok : (b : Bool) (c : Refusal) (u : Unit {0}) → need b c ≡ Ok u → b ≡ true
 need-ok true c u h = refl
 need-ok false c u h = let z : ◌≡◌ {A = ℕ} 0 1 = cc in absurd (omega arith)
 
-position-ok : {A : Type 0} (o : Option A) (x : A) → position o ≡ ok x → o ≡ some x
-position-ok none x h = let z : ◌≡◌ {A = ℕ} 0 1 = cc in absurd (omega arith)
-position-ok (some y) x h = let e : y ≡ x = cc in ap {B = Option _} some e
+position-ok : {A : Type 0} (o : Option A) (x : A) → position o ≡ Ok x → o ≡ Some x
+position-ok None x h = let z : ◌≡◌ {A = ℕ} 0 1 = cc in absurd (omega arith)
+position-ok (Some y) x h = let e : y ≡ x = cc in ap {B = Option _} Some e
 
 -- ---- a position stays where another one is changed
 
@@ -60,12 +60,12 @@ pick-by P zero (suc k) g y a b = a
 pick-by P (suc i) zero g y a b = a
 pick-by P (suc i) (suc k) g y a b = pick-by P i k g y a b
 
-nth-splice : {A : Type 0} (i k : ℕ) (g : A → A) (xs : List A) → nth k (splice i (λ x. g x ∷ []) xs) ≡ map (pick_at i k g) (nth k xs)
+nth-splice : {A : Type 0} (i k : ℕ) (g : A → A) (xs : List A) → nth k (splice i (λ x. g x ∷ []) xs) ≡ option_map (pick_at i k g) (nth k xs)
 nth-splice i k g [] = refl
 nth-splice zero zero g (x ∷ xs) = refl
 nth-splice zero (suc k) g (x ∷ xs) = same-nth k xs
   where
-    same-nth : {A : Type 0} (k : ℕ) (xs : List A) → nth k xs ≡ map (λ (x : A). x) (nth k xs)
+    same-nth : {A : Type 0} (k : ℕ) (xs : List A) → nth k xs ≡ option_map (λ (x : A). x) (nth k xs)
     same-nth k [] = refl
     same-nth zero (x ∷ xs) = refl
     same-nth (suc k) (x ∷ xs) = same-nth k xs
@@ -73,33 +73,33 @@ nth-splice (suc i) zero g (x ∷ xs) = refl
 nth-splice (suc i) (suc k) g (x ∷ xs) = nth-splice i k g xs
 
 abbrev Stands : (d j : ℕ) → List ℕ → List (Branch (up d j)) → Type 0
-Stands d j pos m = (t : Branch j) × (branch_at d j pos m ≡ some t)
+Stands d j pos m = (t : Branch j) × (branch_at d j pos m ≡ Some t)
 
 still : (d j : ℕ) (a b : List ℕ) (new : Branch j) (m : List (Branch (up d j))) → Stands d j b m → Stands d j b (replace_at d j a (new ∷ []) m)
 unfolding branch_at replace_at
 still d j [] b new m s = s
 still d j (i ∷ is) [] new m s = let z : ◌≡◌ {A = ℕ} 0 1 = cc s.1 in absurd (omega arith)
-still zero j (i ∷ is) (k ∷ ks) new m s = (pick_at i k (λ x. new) s.0, nth-splice i k (λ x. new) m ∙ ap (map (pick_at i k (λ x. new))) s.1)
+still zero j (i ∷ is) (k ∷ ks) new m s = (pick_at i k (λ x. new) s.0, nth-splice i k (λ x. new) m ∙ ap (option_map (pick_at i k (λ x. new))) s.1)
 still (suc d) j (i ∷ is) (k ∷ ks) new m s =
     let x = and-then (nth k m) (λ y. branch_at d j ks y.1) s.0 s.1 in
     let g : Branch (suc (up d j)) → Branch (suc (up d j)) = λ y. (y.0, replace_at d j is (new ∷ []) y.1) in
     let r : Stands d j ks (pick_at i k g x.0).1 = pick-by (λ (y : Branch (suc (up d j))). Stands d j ks y.1) i k g x.0 (s.0, x.2) (still d j is ks new x.0.1 (s.0, x.2)) in
-    (r.0, ap (λ (o : Option (Branch (suc (up d j)))). and_then o (λ y. branch_at d j ks y.1)) (nth-splice i k g m ∙ ap (map (pick_at i k g)) x.1) ∙ r.1)
+    (r.0, ap (λ (o : Option (Branch (suc (up d j)))). and_then o (λ y. branch_at d j ks y.1)) (nth-splice i k g m ∙ ap (option_map (pick_at i k g)) x.1) ∙ r.1)
 
 -- ---- what is shown of an accepted call
 
 pub record Taken (m : Machine) (c : Call) : Type 0 where
   pub domain : InDomain c
   pub result : Bool × PDB
-  pub taken : edit c (pdb_of m) ≡ some result
+  pub taken : edit c (pdb_of m) ≡ Some result
 
 -- ---- shape by shape
 
 module _ (d j : ℕ) (pos : List ℕ) (m : List (Branch (up d j))) where
   abbrev Runs : Answer (List (Struct (up d j))) → Type 0
-  Runs o = (r : Bool × List (Struct (up d j))) × (o ≡ some r)
+  Runs o = (r : Bool × List (Struct (up d j))) × (o ≡ Some r)
 
-  removes : (y : List (Branch (up d j))) → Plain.remove_at d j pos m ≡ ok y → Runs (remove_at d j pos (structs_of (up d j) m))
+  removes : (y : List (Branch (up d j))) → Plain.remove_at d j pos m ≡ Ok y → Runs (remove_at d j pos (structs_of (up d j) m))
   unfolding Plain.remove_at
   removes y h =
       let s = then_ok (position (branch_at d j pos m)) _ y h in
@@ -107,7 +107,7 @@ module _ (d j : ℕ) (pos : List ℕ) (m : List (Branch (up d j))) where
 
 module _ (d j : ℕ) (pos : List ℕ) (m : List (Branch (up d (suc j)))) (good : all (good_branch (up d (suc j))) m ≡ true) (p : Fields j → Bool) (q : Struct j → Bool)
     (agree : (u : Branch j) → good_branch j u ≡ true → q (struct_of j u) ≡ p (root j u)) where
-  removes-by-id : (flag : Result (Unit {0})) (y : ℕ × List (Branch (up d (suc j)))) → remove_first d j pos flag p m ≡ ok y → Runs d (suc j) pos m (at_position d (suc j) pos (remove_by_id j q) (structs_of (up d (suc j)) m))
+  removes-by-id : (flag : Result (Unit {0})) (y : ℕ × List (Branch (up d (suc j)))) → remove_first d j pos flag p m ≡ Ok y → Runs d (suc j) pos m (at_position d (suc j) pos (remove_by_id j q) (structs_of (up d (suc j)) m))
   unfolding remove_first
   removes-by-id flag y h =
       let s = bind_ok (position (branch_at d (suc j) pos m)) _ y h in
@@ -117,18 +117,18 @@ module _ (d j : ℕ) (pos : List ℕ) (m : List (Branch (up d (suc j)))) (good :
       (_, at_position_lem (suc j) (remove_by_id j q) s.0 _ _ (remove-by-id j p q s.0 a) d pos m e)
 
   -- its flag was good
-  flag-good : (flag : Result (Unit {0})) (y : ℕ × List (Branch (up d (suc j)))) → remove_first d j pos flag p m ≡ ok y → flag ≡ ok tt
+  flag-good : (flag : Result (Unit {0})) (y : ℕ × List (Branch (up d (suc j)))) → remove_first d j pos flag p m ≡ Ok y → flag ≡ Ok tt
   unfolding remove_first
   flag-good flag y h = (then_ok flag _ y (bind_ok (position (branch_at d (suc j) pos m)) _ y h).2).1
 
-flagged : (flag : ℕ) (x : Refusal) → need (leb flag 1) x ≡ ok tt → Flagged flag (Unit {0})
+flagged : (flag : ℕ) (x : Refusal) → need (leb flag 1) x ≡ Ok tt → Flagged flag (Unit {0})
 flagged zero x h = tt
 flagged (suc zero) x h = tt
 flagged (suc (suc n)) x h = let l = leb-true (suc (suc n)) 1 (need-ok (leb (suc (suc n)) 1) x tt h) in absurd (omega arith)
 
 -- the branch there, and what f gave for its fields
-sets : (d j : ℕ) (pos : List ℕ) (f : Fields j → Result (Option (Fields j))) (m : List (Branch (up d j))) (y : ℕ × List (Branch (up d j))) → set_at d j pos f m ≡ ok y
-    → (t : Branch j) × (branch_at d j pos m ≡ some t) × (o : Option (Fields j)) × (f (root j t) ≡ ok o)
+sets : (d j : ℕ) (pos : List ℕ) (f : Fields j → Result (Option (Fields j))) (m : List (Branch (up d j))) (y : ℕ × List (Branch (up d j))) → set_at d j pos f m ≡ Ok y
+    → (t : Branch j) × (branch_at d j pos m ≡ Some t) × (o : Option (Fields j)) × (f (root j t) ≡ Ok o)
 unfolding set_at
 sets d j pos f m y h =
     let s = bind_ok (position (branch_at d j pos m)) _ y h in
@@ -136,7 +136,7 @@ sets d j pos f m y h =
     (s.0, position-ok (branch_at d j pos m) s.0 s.1, o.0, o.1)
 
 -- an element that was taken is an `Element`
-is-element : (e : ℕ) (a : Fields 0) (o : Option (Fields 0)) → fill_in e a ≡ ok o → (1 ≤ e) × (e ≤ 118)
+is-element : (e : ℕ) (a : Fields 0) (o : Option (Fields 0)) → fill_in e a ≡ Ok o → (1 ≤ e) × (e ≤ 118)
 is-element e a o h =
     let n = then_ok (need (is_element e) BadValue) _ o h in
     let b = and_both (leb 1 e) (leb e 118) (need-ok (is_element e) _ n.0 n.1) in
@@ -150,9 +150,9 @@ module _ (d j : ℕ) (a b : List ℕ) (m : List (Branch (up d (suc j)))) where
   record Joins : Type 0 where
     apart : same a b ≡ false
     result : Bool × List (Struct (up d (suc j)))
-    taken : join_at d j a b (structs_of (up d (suc j)) m) ≡ some result
+    taken : join_at d j a b (structs_of (up d (suc j)) m) ≡ Some result
 
-  joins : (y : List (Branch (up d (suc j)))) → Plain.join_at d j a b m ≡ ok y → Joins
+  joins : (y : List (Branch (up d (suc j)))) → Plain.join_at d j a b m ≡ Ok y → Joins
   unfolding Plain.join_at join_at
   joins y h =
       let s = bind_ok (position (branch_at d (suc j) a m)) _ y h in
@@ -166,7 +166,7 @@ module _ (d j : ℕ) (a b : List ℕ) (m : List (Branch (up d (suc j)))) where
         apart = not_same (same a b) (need-ok (not (same a b)) _ n.0 n.1);
         result = (true, structs_of (up d (suc j)) (replace_at d (suc j) b [] (replace_at d (suc j) a (t' ∷ []) m)));
         taken =
-            ap (λ (o : Option (Struct (suc j))). and_then o (λ (other : Struct (suc j)). and_then (at_position d (suc j) a (join j other) (structs_of (up d (suc j)) m)) (λ r. remove_at d (suc j) b r.1))) (struct-at d (suc j) b m ∙ ap (map (struct_of (suc j))) f)
+            ap (λ (o : Option (Struct (suc j))). and_then o (λ (other : Struct (suc j)). and_then (at_position d (suc j) a (join j other) (structs_of (up d (suc j)) m)) (λ r. remove_at d (suc j) b r.1))) (struct-at d (suc j) b m ∙ ap (option_map (struct_of (suc j))) f)
             ∙ ap (λ (o : Answer (List (Struct (up d (suc j))))). and_then o (λ r. remove_at d (suc j) b r.1)) (at_position_lem (suc j) (join j (struct_of (suc j) u.0)) s.0 t' true (join-square j s.0 u.0) d a m e)
             ∙ remove-at d (suc j) b (replace_at d (suc j) a (t' ∷ []) m) v.0 v.1;
       }
@@ -174,14 +174,14 @@ module _ (d j : ℕ) (a b : List ℕ) (m : List (Branch (up d (suc j)))) where
 -- ---- the theorem
 
 module _ (n : ℕ) (m : Machine) (good : all (good_branch 4) m ≡ true) where
-  on-model : (i : ℕ) (g : Struct 4 → Struct 4) (f : Branch 4 → Branch 4) → ((t : Branch 4) → g (struct_of 4 t) ≡ struct_of 4 (f t)) → (t : Branch 4) → position (branch_at 0 4 (i ∷ []) m) ≡ ok t
-      → Runs 0 4 (i ∷ []) m (at_position 0 4 (i ∷ []) (λ (x : Struct 4). some (true, g x)) (pdb_of m))
-  on-model i g f e t h = (_, at_position_lem 4 (λ (x : Struct 4). some (true, g x)) t (f t) true (ap (λ (x : Struct 4). some (true, x)) (e t)) 0 (i ∷ []) m (position-ok (branch_at 0 4 (i ∷ []) m) t h))
+  on-model : (i : ℕ) (g : Struct 4 → Struct 4) (f : Branch 4 → Branch 4) → ((t : Branch 4) → g (struct_of 4 t) ≡ struct_of 4 (f t)) → (t : Branch 4) → position (branch_at 0 4 (i ∷ []) m) ≡ Ok t
+      → Runs 0 4 (i ∷ []) m (at_position 0 4 (i ∷ []) (λ (x : Struct 4). Some (true, g x)) (pdb_of m))
+  on-model i g f e t h = (_, at_position_lem 4 (λ (x : Struct 4). Some (true, g x)) t (f t) true (ap (λ (x : Struct 4). Some (true, x)) (e t)) 0 (i ∷ []) m (position-ok (branch_at 0 4 (i ∷ []) m) t h))
 
   by-position : (c : Call) → InDomain c → Runs 0 4 [] m (edit c (pdb_of m)) → Taken m c
   by-position c d r = record { domain = d; result = r.0; taken = r.1 }
 
-  pub no-panic : (c : Call) (ch : Change) → machine_step n m c ≡ ok ch → Taken m c
+  pub no-panic : (c : Call) (ch : Change) → machine_step n m c ≡ Ok ch → Taken m c
   unfolding edit machine_step add_model add_atom Plain.add_prepared branch_at struct_of Plain.remove_atoms_by Plain.remove_empty
   no-panic (AddModel serial) ch h = record { domain = tt; result = _; taken = refl }
   no-panic (AddAtom i a) ch h =
@@ -200,8 +200,8 @@ module _ (n : ℕ) (m : Machine) (good : all (good_branch 4) m ≡ true) where
   no-panic (RemoveConformer i c r f) ch h = by-position (RemoveConformer i c r f) tt (removes 3 1 (i ∷ c ∷ r ∷ f ∷ []) m _ (bind_ok (Plain.remove_at 3 1 (i ∷ c ∷ r ∷ f ∷ []) m) _ ch h).1)
   no-panic (RemoveAtom i c r f a) ch h = by-position (RemoveAtom i c r f a) tt (removes 4 0 (i ∷ c ∷ r ∷ f ∷ a ∷ []) m _ (bind_ok (Plain.remove_at 4 0 (i ∷ c ∷ r ∷ f ∷ a ∷ []) m) _ ch h).1)
   no-panic (RemoveChainById i id) ch h =
-      let e = (bind_ok (remove_first 0 3 (i ∷ []) (ok tt) (λ c. matches id c.id) m) _ ch h).1 in
-      by-position (RemoveChainById i id) tt (removes-by-id 0 3 (i ∷ []) m good (λ c. matches id c.id) (same_chain id) (agree-chain id) (ok tt) _ e)
+      let e = (bind_ok (remove_first 0 3 (i ∷ []) (Ok tt) (λ c. matches id c.id) m) _ ch h).1 in
+      by-position (RemoveChainById i id) tt (removes-by-id 0 3 (i ∷ []) m good (λ c. matches id c.id) (same_chain id) (agree-chain id) (Ok tt) _ e)
   no-panic (RemoveResidueById i c serial code) ch h =
       let p : Fields 2 → Bool = λ y. eqb y.serial serial && matches_optional code y.code in
       let flag = need (good_flag code) (bad_name InsertionCode) in
@@ -215,8 +215,8 @@ module _ (n : ℕ) (m : Machine) (good : all (good_branch 4) m ≡ true) where
       by-position (RemoveConformerById i c r name location) (flagged location.flag _ (flag-good 2 1 (i ∷ c ∷ r ∷ []) m good p (same_conformer name (option_of location)) (agree-conformer name location) flag _ e))
       (removes-by-id 2 1 (i ∷ c ∷ r ∷ []) m good p (same_conformer name (option_of location)) (agree-conformer name location) flag _ e)
   no-panic (RemoveAtomBySerialNumber i c r f serial) ch h =
-      let e = (bind_ok (remove_first 3 0 (i ∷ c ∷ r ∷ f ∷ []) (ok tt) (λ a. eqb a.serial serial) m) _ ch h).1 in
-      by-position (RemoveAtomBySerialNumber i c r f serial) tt (removes-by-id 3 0 (i ∷ c ∷ r ∷ f ∷ []) m good (λ a. eqb a.serial serial) (same_atom serial) (agree-atom serial) (ok tt) _ e)
+      let e = (bind_ok (remove_first 3 0 (i ∷ c ∷ r ∷ f ∷ []) (Ok tt) (λ a. eqb a.serial serial) m) _ ch h).1 in
+      by-position (RemoveAtomBySerialNumber i c r f serial) tt (removes-by-id 3 0 (i ∷ c ∷ r ∷ f ∷ []) m good (λ a. eqb a.serial serial) (same_atom serial) (agree-atom serial) (Ok tt) _ e)
   no-panic (RemoveAtomsBy i tree) ch h =
       let p : Fields zero → Bool = λ a. not (is_true (tree_value (term_value tables (enter zero a nowhere)) tree)) in
       let x = bind_ok (position (branch_at 0 4 (i ∷ []) m)) _ ch h in

@@ -1,9 +1,8 @@
 -- The second demand, proved. Assumes nothing.
+use Rattle.std.specs.Prelude.{Err, Ok, Option, Some, option_map}
 use Rattle.std.proofs.Common.{◌≡◌, ℕ, Bool, true, false, List, [], ◌∷◌, map, length, sym, refl, ap, ◌∙◌, subst, arith, le-leb}
-use mathlib.Core.Option
-use mathlib.Core.Option.{Option, some}
 use Rattle.machine.specs.Lists.{keep, filter, sum, and_then}
-use Rattle.machine.specs.Answer.{Result, ok, refused, ◌>>◌, need}
+use Rattle.machine.specs.Answer.{Result, ◌>>◌, need}
 use Rattle.machine.specs.Store.{Machine, flat, records, capacity, lay_out, read_store, open_run}
 use Rattle.machine.specs.Query.{tables}
 use Rattle.machine.specs.Find.{Site, size, atoms_from, lowest, hits_among, find_from}
@@ -36,16 +35,16 @@ module _ (n : ℕ) (m : Machine) (cs : List Call) where
   pub record Together : Type 0 where
     pub bools : List Bool
     pub pdb : PDB
-    pub ran : edits (accepted_of cs (machine_answers n m cs)) (pdb_of m) ≡ some (bools, pdb)
+    pub ran : edits (accepted_of cs (machine_answers n m cs)) (pdb_of m) ≡ Some (bools, pdb)
     pub held : pdb ≡ pdb_of (machine_after n m cs)
     pub founds : map found_by (filter accepts (machine_answers n m cs)) ≡ map bit bools
     pub fit : Fit n (machine_after n m cs)
 
-refused-not : (m : Machine) (x : Refusal) → accepts (answer m (refused x)) ≡ false
+refused-not : (m : Machine) (x : Refusal) → accepts (answer m (Err x)) ≡ false
 refused-not m x = refusal-number x
 
 -- what an accepted step changed
-same-change : (b : Bool) (c ch : Change) → (need b NoCapacity >> ok c) ≡ ok ch → ch ≡ c
+same-change : (b : Bool) (c ch : Change) → (need b NoCapacity >> Ok c) ≡ Ok ch → ch ≡ c
 same-change true c ch h = cc
 same-change false c ch h = let z : ◌≡◌ {A = ℕ} 0 1 = cc in absurd (omega arith)
 
@@ -54,23 +53,23 @@ module _ (n : ℕ) (c : Call) (cs : List Call) (m : Machine) where
   record After (o : Result Change) : Type 0 where
     bools : List Bool
     pdb : PDB
-    ran : edits (keep (accepts (answer m o)) c (accepted_of cs (machine_answers n (next m o) cs))) (pdb_of m) ≡ some (bools, pdb)
+    ran : edits (keep (accepts (answer m o)) c (accepted_of cs (machine_answers n (next m o) cs))) (pdb_of m) ≡ Some (bools, pdb)
     held : pdb ≡ pdb_of (machine_after n (next m o) cs)
     founds : map found_by (filter accepts (answer m o ∷ machine_answers n (next m o) cs)) ≡ map bit bools
     fit : Fit n (machine_after n (next m o) cs)
 
-  passed_over : (x : Refusal) → Together n m cs → After (refused x)
+  passed_over : (x : Refusal) → Together n m cs → After (Err x)
   passed_over x y =
       record {
         bools = y.bools;
         pdb = y.pdb;
         ran = ap (λ (b : Bool). edits (keep b c (accepted_of cs (machine_answers n m cs))) (pdb_of m)) (refused-not m x) ∙ y.ran;
         held = y.held;
-        founds = ap (λ (b : Bool). map found_by (keep b (answer m (refused x)) (filter accepts (machine_answers n m cs)))) (refused-not m x) ∙ y.founds;
+        founds = ap (λ (b : Bool). map found_by (keep b (answer m (Err x)) (filter accepts (machine_answers n m cs)))) (refused-not m x) ∙ y.founds;
         fit = y.fit;
       }
 
-  taken-too : (r : Bool × PDB) (after : Machine) → edit c (pdb_of m) ≡ some r → r.1 ≡ pdb_of after → Together n after cs → After (ok (record { found = bit r.0; after = after }))
+  taken-too : (r : Bool × PDB) (after : Machine) → edit c (pdb_of m) ≡ Some r → r.1 ≡ pdb_of after → Together n after cs → After (Ok (record { found = bit r.0; after = after }))
   unfolding edits
   taken-too r after t h y =
       let l = accepted_of cs (machine_answers n after cs) in
@@ -78,28 +77,28 @@ module _ (n : ℕ) (c : Call) (cs : List Call) (m : Machine) where
         bools = r.0 ∷ y.bools;
         pdb = y.pdb;
         ran =
-            ap (λ (o : Option (Bool × PDB)). and_then o (λ q. and_then (edits l q.1) (λ p. some (q.0 ∷ p.0, p.1)))) t
-            ∙ ap (λ (b : PDB). and_then (edits l b) (λ p. some (r.0 ∷ p.0, p.1))) h
-            ∙ ap (λ (o : Option (List Bool × PDB)). and_then o (λ p. some (r.0 ∷ p.0, p.1))) y.ran;
+            ap (λ (o : Option (Bool × PDB)). and_then o (λ q. and_then (edits l q.1) (λ p. Some (q.0 ∷ p.0, p.1)))) t
+            ∙ ap (λ (b : PDB). and_then (edits l b) (λ p. Some (r.0 ∷ p.0, p.1))) h
+            ∙ ap (λ (o : Option (List Bool × PDB)). and_then o (λ p. Some (r.0 ∷ p.0, p.1))) y.ran;
         held = y.held;
         founds = ap (λ (k : List ℕ). bit r.0 ∷ k) y.founds;
         fit = y.fit;
       }
 
   module _ (f : Fit n m) (on : (m' : Machine) → Fit n m' → Together n m' cs) where
-    done : (ch : Change) → machine_step n m c ≡ ok ch → After (machine_step n m c)
+    done : (ch : Change) → machine_step n m c ≡ Ok ch → After (machine_step n m c)
     done ch e =
         let t = no-panic n m f.good c ch e in
         let r = t.result in
         let x = same_step n m f.good c t.domain r t.taken in
         let z : ch ≡ record { found = bit r.0; after = x.after } = same-change x.fits (record { found = bit r.0; after = x.after }) ch (sym x.stepped ∙ e) in
-        let o : machine_step n m c ≡ ok (record { found = bit r.0; after = x.after }) = e ∙ ap {B = Result Change} ok z in
+        let o : machine_step n m c ≡ Ok (record { found = bit r.0; after = x.after }) = e ∙ ap {B = Result Change} Ok z in
         let g : Fit n x.after = subst (Fit n) (ap (next m) o) (step_keeps n m c f) in
         subst After (sym o) (taken-too r x.after t.taken x.held (on x.after g))
 
     stepped : (o : Result Change) → machine_step n m c ≡ o → After (machine_step n m c)
-    stepped (ok ch) e = done ch e
-    stepped (refused x) e = subst After (sym e) (passed_over x (on m f))
+    stepped (Ok ch) e = done ch e
+    stepped (Err x) e = subst After (sym e) (passed_over x (on m f))
 
 pub together : (n : ℕ) (cs : List Call) (m : Machine) → Fit n m → Together n m cs
 unfolding machine_after machine_answers accepted_of edits
@@ -130,12 +129,12 @@ module _ (n : ℕ) (m : Machine) (f : Fit n m) (pdb : PDB) (here : machine_from 
 
       go : (b : Bool) → x.fits ≡ b → Took (machine_step n m c)
       go true e =
-          let o : machine_step n m c ≡ ok change = x.stepped ∙ ap (λ (b : Bool). need b NoCapacity >> ok change) e in
+          let o : machine_step n m c ≡ Ok change = x.stepped ∙ ap (λ (b : Bool). need b NoCapacity >> Ok change) e in
           let g : Fit n x.after = subst (Fit n) (ap (next m) o) (step_keeps n m c f) in
           let back : machine_from after ≡ x.after = ap machine_from x.held ∙ machine-back x.after g.good in
           subst Took (sym o) (rw (counted, le-leb (length (records x.after)) (capacity n) g.room, here, back))
       go false e =
-          let o : machine_step n m c ≡ refused NoCapacity = x.stepped ∙ ap (λ (b : Bool). need b NoCapacity >> ok change) e in
+          let o : machine_step n m c ≡ Err NoCapacity = x.stepped ∙ ap (λ (b : Bool). need b NoCapacity >> Ok change) e in
           subst Took (sym o) (rw (counted, x.unfit e))
 
 -- ---- the theorem
@@ -153,16 +152,16 @@ module _ (w : List ℕ) (calls : List Call) (o : Accepted (open_run w)) where
   back : machine_from both.pdb ≡ after
   back = ap machine_from both.held ∙ machine-back after both.fit.good
 
-  read : read_store (store w calls) ≡ ok after
+  read : read_store (store w calls) ≡ Ok after
   read = rw held (read-lay_out (length w) after (opened-length w o) both.fit)
 
-  takes : (c : Call) → InDomain c → (found : Bool) (pdb : PDB) → edit c both.pdb ≡ some (found, pdb) → store_step (store w calls) c ≡ outcome (length w) (store w calls) both.pdb found pdb
+  takes : (c : Call) → InDomain c → (found : Bool) (pdb : PDB) → edit c both.pdb ≡ Some (found, pdb) → store_step (store w calls) c ≡ outcome (length w) (store w calls) both.pdb found pdb
   takes c d found pdb e =
       let x = same_step (length w) after both.fit.good c d (found, pdb) (ap (edit c) (sym both.held) ∙ e) in
       rw held (store_step_lem (length w) after c (opened-length w o) both.fit ∙ took (length w) after both.fit both.pdb back c found pdb x)
 
   module _ (start t out : List ℕ) (k : Accepted (find_from (store w calls) start t out)) where
-    under : (atoms : List Site) × (atoms_from start after ≡ some atoms)
+    under : (atoms : List Site) × (atoms_from start after ≡ Some atoms)
     under = start-found after (store w calls) read start (atoms_from start after) refl t out k
 
     run : Listed tables (lowest start) under.0 t (find_from (store w calls) start t out)
@@ -171,12 +170,12 @@ module _ (w : List ℕ) (calls : List Call) (o : Accepted (open_run w)) where
     tree : Reads t
     tree = reads t run.nodes run.tree
 
-    found : find_at start (search_for t) both.pdb ≡ some (list (find_from (store w calls) start t out))
+    found : find_at start (search_for t) both.pdb ≡ Some (list (find_from (store w calls) start t out))
     found =
         ap (find_at start (search_for t)) both.held
         ∙ find-hits t tree start after
-        ∙ ap (Option.map (hits_among tables (lowest start) t)) under.1
-        ∙ ap some (sym run.hits)
+        ∙ ap (option_map (hits_among tables (lowest start) t)) under.1
+        ∙ ap Some (sym run.hits)
 
   -- the second demand
   pub demand2 : Demand2 w calls

@@ -1,10 +1,11 @@
 -- Edits are the crate's: for every call of the domain on which the crate doesn't panic, document 01's machine takes the same step. Assumes nothing.
+use Rattle.std.proofs.lemmas.Option.{none-some, same_Some}
+use Rattle.std.specs.Prelude.{None, Ok, Option, Some}
 use Rattle.std.proofs.Common.{◌≡◌, ℕ, zero, suc, Bool, true, false, not, ◌&&◌, eqb, leb, List, [], ◌∷◌, ◌++◌, length, sym, refl, ap, ◌∙◌, subst, ap₂, eqb-true}
 use mathlib.Core.Bool.{false≢true, not-not}
 use mathlib.Core.List.{map-append}
-use mathlib.Core.Option.{Option, none, some, none-ne-some, some-injective}
 use Rattle.machine.specs.Lists.{is_some, all, same}
-use Rattle.machine.specs.Answer.{Result, ok, ◌>>◌, need, bad_name}
+use Rattle.machine.specs.Answer.{Result, ◌>>◌, need, bad_name}
 use Rattle.machine.specs.Text.{Optional, text_of, trim, trim_start, unpacked, without_zeros, chain_id, uppercase_or, conformer_name, stored_by, absent_or, alternative_location, matches, matches_optional}
 use Rattle.machine.specs.Record.{Fields, good_fields}
 use Rattle.machine.specs.Store.{Branch, Machine, records, capacity}
@@ -40,48 +41,48 @@ pub record Same (n : ℕ) (m : Machine) (c : Call) (r : Bool × PDB) : Type 0 wh
   pub after : Machine
   pub fits : Bool
   pub unfit : fits ≡ false → leb (length (records after)) (capacity n) ≡ false
-  pub stepped : machine_step n m c ≡ (need fits NoCapacity >> ok (record { found = bit r.0; after = after }))
+  pub stepped : machine_step n m c ≡ need fits NoCapacity >> Ok (record { found = bit r.0; after = after })
   pub held : r.1 ≡ pdb_of after
 
 -- the same for a step that says what it found, at any level
 record Found (k : ℕ) (s : Result (ℕ × List (Branch k))) (r : Bool × List (Struct k)) : Type 0 where
   next : List (Branch k)
-  steps : s ≡ ok (bit r.0, next)
+  steps : s ≡ Ok (bit r.0, next)
   held : r.1 ≡ structs_of k next
 
 -- ---- removals by position
 
 module _ (d j : ℕ) (pos : List ℕ) (m : List (Branch (up d j))) (r : Bool × List (Struct (up d j))) where
-  the_same : (q : Bool × List (Struct (up d j))) → ◌≡◌ {A = Answer (List (Struct (up d j)))} (some q) (some r) → r ≡ q
-  the_same q e = sym (some-injective q r e)
+  the_same : (q : Bool × List (Struct (up d j))) → ◌≡◌ {A = Answer (List (Struct (up d j)))} (Some q) (Some r) → r ≡ q
+  the_same q e = sym (same_Some q r e)
 
   record Removed : Type 0 where
     gone : Branch j
-    there : branch_at d j pos m ≡ some gone
+    there : branch_at d j pos m ≡ Some gone
     held : r ≡ (true, structs_of (up d j) (replace_at d j pos [] m))
 
-  removed : remove_at d j pos (structs_of (up d j) m) ≡ some r → Removed
+  removed : remove_at d j pos (structs_of (up d j) m) ≡ Some r → Removed
   removed h = go (branch_at d j pos m) refl
     where
       go : (o : Option (Branch j)) → branch_at d j pos m ≡ o → Removed
-      go none e = absurd (none-ne-some r (sym (remove-nowhere d j pos m e) ∙ h))
-      go (some t) e = record { gone = t; there = e; held = the_same _ (sym (remove-at d j pos m t e) ∙ h) }
+      go None e = absurd (none-some r (sym (remove-nowhere d j pos m e) ∙ h))
+      go (Some t) e = record { gone = t; there = e; held = the_same _ (sym (remove-at d j pos m t e) ∙ h) }
 
   -- a call on what stands at the position
   record There (g : Struct j → Answer (Struct j)) : Type 0 where
     what : Branch j
-    there : branch_at d j pos m ≡ some what
+    there : branch_at d j pos m ≡ Some what
 
-  there : (g : Struct j → Answer (Struct j)) → at_position d j pos g (structs_of (up d j) m) ≡ some r → There g
+  there : (g : Struct j → Answer (Struct j)) → at_position d j pos g (structs_of (up d j) m) ≡ Some r → There g
   there g h = go (branch_at d j pos m) refl
     where
       go : (o : Option (Branch j)) → branch_at d j pos m ≡ o → There g
-      go none e = absurd (none-ne-some r (sym (no-position d j g pos m e) ∙ h))
-      go (some t) e = record { what = t; there = e }
+      go None e = absurd (none-some r (sym (no-position d j g pos m e) ∙ h))
+      go (Some t) e = record { what = t; there = e }
 
   -- it changes that to u or leaves it, and says which; s is the machine's step
-  found-there : (g : Struct j → Answer (Struct j)) (t u : Branch j) (b : Bool) (s : Result (ℕ × List (Branch (up d j)))) → branch_at d j pos m ≡ some t → g (struct_of j t) ≡ some (b, struct_of j u)
-      → s ≡ ok (bit b, replace_at d j pos (u ∷ []) m) → at_position d j pos g (structs_of (up d j) m) ≡ some r → Found (up d j) s r
+  found-there : (g : Struct j → Answer (Struct j)) (t u : Branch j) (b : Bool) (s : Result (ℕ × List (Branch (up d j)))) → branch_at d j pos m ≡ Some t → g (struct_of j t) ≡ Some (b, struct_of j u)
+      → s ≡ Ok (bit b, replace_at d j pos (u ∷ []) m) → at_position d j pos g (structs_of (up d j) m) ≡ Some r → Found (up d j) s r
   found-there g t u b s e a k h =
       let q : Bool × List (Struct (up d j)) = (b, structs_of (up d j) (replace_at d j pos (u ∷ []) m)) in
       subst (Found (up d j) s) (sym (the_same q (sym (at_position_lem j g t u b a d pos m e) ∙ h))) (record { next = replace_at d j pos (u ∷ []) m; steps = k; held = refl })
@@ -110,8 +111,8 @@ unfolding matches
 text-match w e t = sym (both w e t)
 
 module _ (d j : ℕ) (pos : List ℕ) (m : List (Branch (up d (suc j)))) (good : all (good_branch (up d (suc j))) m ≡ true) (p : Fields j → Bool) (q : Struct j → Bool)
-    (agree : (u : Branch j) → good_branch j u ≡ true → q (struct_of j u) ≡ p (root j u)) (flag : Result (Unit {0})) (f : flag ≡ ok tt) (r : Bool × List (Struct (up d (suc j)))) where
-  removed-by-id : at_position d (suc j) pos (remove_by_id j q) (structs_of (up d (suc j)) m) ≡ some r → Found (up d (suc j)) (remove_first d j pos flag p m) r
+    (agree : (u : Branch j) → good_branch j u ≡ true → q (struct_of j u) ≡ p (root j u)) (flag : Result (Unit {0})) (f : flag ≡ Ok tt) (r : Bool × List (Struct (up d (suc j)))) where
+  removed-by-id : at_position d (suc j) pos (remove_by_id j q) (structs_of (up d (suc j)) m) ≡ Some r → Found (up d (suc j)) (remove_first d j pos flag p m) r
   unfolding remove_first
   removed-by-id h =
       let t = there d (suc j) pos m r (remove_by_id j q) h in
@@ -119,27 +120,27 @@ module _ (d j : ℕ) (pos : List ℕ) (m : List (Branch (up d (suc j)))) (good :
       let a : All (λ (u : Branch j). q (struct_of j u) ≡ p (root j u)) t.what.1 = All-map agree t.what.1 (All-of (good_branch j) t.what.1 g) in
       let o = index j p q t.what a in
       found-there d (suc j) pos m r (remove_by_id j q) t.what (t.what.0, without_one o t.what.1) (is_some o) _ t.there (remove-by-id j p q t.what a)
-      (rw (t.there, f) (ap {B = Result _} ok (without-found d j pos t.what m t.there o))) h
+      (rw (t.there, f) (ap {B = Result _} Ok (without-found d j pos t.what m t.there o))) h
 
 -- ---- a record's own fields
 
 -- o is what f says of the fields, other ones or none, and the crate's call g on the struct agrees
-module _ (d j : ℕ) (pos : List ℕ) (m : List (Branch (up d j))) (f : Fields j → Result (Option (Fields j))) (o : Fields j → Option (Fields j)) (says : (x : Fields j) → f x ≡ ok (o x))
-    (g : Struct j → Answer (Struct j)) (agree : (t : Branch j) → g (struct_of j t) ≡ some (is_some (o (root j t)), struct_of j (with_new j (o (root j t)) t))) (r : Bool × List (Struct (up d j))) where
-  set_there : at_position d j pos g (structs_of (up d j) m) ≡ some r → Found (up d j) (set_at d j pos f m) r
+module _ (d j : ℕ) (pos : List ℕ) (m : List (Branch (up d j))) (f : Fields j → Result (Option (Fields j))) (o : Fields j → Option (Fields j)) (says : (x : Fields j) → f x ≡ Ok (o x))
+    (g : Struct j → Answer (Struct j)) (agree : (t : Branch j) → g (struct_of j t) ≡ Some (is_some (o (root j t)), struct_of j (with_new j (o (root j t)) t))) (r : Bool × List (Struct (up d j))) where
+  set_there : at_position d j pos g (structs_of (up d j) m) ≡ Some r → Found (up d j) (set_at d j pos f m) r
   unfolding set_at
   set_there h =
       let t = there d j pos m r g h in
       let x = root j t.what in
       found-there d j pos m r g t.what (with_new j (o x) t.what) (is_some (o x)) _ t.there (agree t.what)
-      (rw (t.there, says x) (ap {B = Result _} ok (refielded-found d j pos t.what m t.there (o x)))) h
+      (rw (t.there, says x) (ap {B = Result _} Ok (refielded-found d j pos t.what m t.there (o x)))) h
 
 -- ---- remove_atoms_by: the tree's value with the atom alone known
 
 known-true : (o : Option Bool) → is_known true o ≡ is_true (to_tri o)
-known-true none = refl
-known-true (some true) = refl
-known-true (some false) = refl
+known-true None = refl
+known-true (Some true) = refl
+known-true (Some false) = refl
 
 pub chosen-value : (tree : List ℕ) → Reads tree → (a : Fields zero)
     → chosen (search_for tree) (says_of zero a) ≡ not (not (is_true (tree_value (term_value tables (enter zero a nowhere)) tree)))
@@ -169,7 +170,7 @@ pub agree-atom : (serial : ℕ) (u : Branch 0) → good_branch 0 u ≡ true → 
 unfolding struct_of says_of
 agree-atom serial u g = refl
 
-flag_ok : (flag : ℕ) (x : Refusal) → Flagged flag (Unit {0}) → need (leb flag 1) x ≡ ok tt
+flag_ok : (flag : ℕ) (x : Refusal) → Flagged flag (Unit {0}) → need (leb flag 1) x ≡ Ok tt
 flag_ok zero x f = refl
 flag_ok (suc zero) x f = refl
 flag_ok (suc (suc n)) x f = absurd f
@@ -179,35 +180,35 @@ flag_ok (suc (suc n)) x f = absurd f
 module _ (n : ℕ) (m : Machine) (good : all (good_branch 4) m ≡ true) where
   -- a call that changes the model at an index
   on-model : (i : ℕ) (g : Struct 4 → Struct 4) (f : Branch 4 → Branch 4) → ((t : Branch 4) → g (struct_of 4 t) ≡ struct_of 4 (f t)) → (r : Bool × PDB)
-      → at_position 0 4 (i ∷ []) (λ (x : Struct 4). some (true, g x)) (pdb_of m) ≡ some r
-      → (t : Branch 4) × (branch_at 0 4 (i ∷ []) m ≡ some t) × (r ≡ (true, pdb_of (replace_at 0 4 (i ∷ []) (f t ∷ []) m)))
+      → at_position 0 4 (i ∷ []) (λ (x : Struct 4). Some (true, g x)) (pdb_of m) ≡ Some r
+      → (t : Branch 4) × (branch_at 0 4 (i ∷ []) m ≡ Some t) × (r ≡ (true, pdb_of (replace_at 0 4 (i ∷ []) (f t ∷ []) m)))
   on-model i g f e r h =
-      let t = there 0 4 (i ∷ []) m r (λ (x : Struct 4). some (true, g x)) h in
-      (t.what, t.there, the_same 0 4 (i ∷ []) m r _ (sym (at_position_lem 4 (λ (x : Struct 4). some (true, g x)) t.what (f t.what) true (ap (λ (x : Struct 4). some (true, x)) (e t.what)) 0 (i ∷ []) m t.there) ∙ h))
+      let t = there 0 4 (i ∷ []) m r (λ (x : Struct 4). Some (true, g x)) h in
+      (t.what, t.there, the_same 0 4 (i ∷ []) m r _ (sym (at_position_lem 4 (λ (x : Struct 4). Some (true, g x)) t.what (f t.what) true (ap (λ (x : Struct 4). Some (true, x)) (e t.what)) 0 (i ∷ []) m t.there) ∙ h))
 
   found : (c : Call) (r : Bool × PDB) (s : Result (ℕ × Machine)) → machine_step n m c ≡ Plain.with_found s → Found 4 s r → Same n m c r
   found c r s e x = record { after = x.next; fits = true; unfit = λ f. absurd (false≢true (sym f)); stepped = e ∙ ap Plain.with_found x.steps; held = x.held }
 
-  done : (c : Call) (r : Bool × PDB) (after : Machine) → r ≡ (true, pdb_of after) → machine_step n m c ≡ ok (record { found = 1; after = after }) → Same n m c r
-  done c r after e s = subst (λ (x : Bool × PDB). Same n m c x) (sym e) (found c (true, pdb_of after) (ok (1, after)) s (record { next = after; steps = refl; held = refl }))
+  done : (c : Call) (r : Bool × PDB) (after : Machine) → r ≡ (true, pdb_of after) → machine_step n m c ≡ Ok (record { found = 1; after = after }) → Same n m c r
+  done c r after e s = subst (λ (x : Bool × PDB). Same n m c x) (sym e) (found c (true, pdb_of after) (Ok (1, after)) s (record { next = after; steps = refl; held = refl }))
 
   -- an addition needs room
   grown : (c : Call) (r : Bool × PDB) (after : Machine) → r ≡ (true, pdb_of after) → machine_step n m c ≡ Plain.fits n after → Same n m c r
   grown c r after e s =
       subst (λ (x : Bool × PDB). Same n m c x) (sym e) (record { after = after; fits = leb (length (records after)) (capacity n); unfit = λ f. f; stepped = s; held = refl })
 
-  pub same_step : (c : Call) → InDomain c → (r : Bool × PDB) → edit c (pdb_of m) ≡ some r → Same n m c r
+  pub same_step : (c : Call) → InDomain c → (r : Bool × PDB) → edit c (pdb_of m) ≡ Some r → Same n m c r
   unfolding edit machine_step add_model Plain.add_model Plain.remove_at Plain.remove_atoms_by Plain.remove_empty Plain.join_at struct_of says_of
   same_step (AddModel serial) d r h =
       grown (AddModel serial) r (m ++ ((record { serial = serial }, []) ∷ []))
-      (sym (some-injective _ r h) ∙ ap (λ (l : PDB). (true, l)) (sym (map-append (struct_of 4) m ((record { serial = serial }, []) ∷ [])))) refl
+      (sym (same_Some _ r h) ∙ ap (λ (l : PDB). (true, l)) (sym (map-append (struct_of 4) m ((record { serial = serial }, []) ∷ [])))) refl
   same_step (AddAtom i a) d r h = let x = add-atom n i m a d r h in grown (AddAtom i a) r x.after x.held x.stepped
   same_step (RemoveChain i c) d r h = let x = removed 1 3 (i ∷ c ∷ []) m r h in done (RemoveChain i c) r (replace_at 1 3 (i ∷ c ∷ []) [] m) x.held (rw x.there)
   same_step (RemoveResidue i c y) d r h = let x = removed 2 2 (i ∷ c ∷ y ∷ []) m r h in done (RemoveResidue i c y) r (replace_at 2 2 (i ∷ c ∷ y ∷ []) [] m) x.held (rw x.there)
   same_step (RemoveConformer i c y f) d r h = let x = removed 3 1 (i ∷ c ∷ y ∷ f ∷ []) m r h in done (RemoveConformer i c y f) r (replace_at 3 1 (i ∷ c ∷ y ∷ f ∷ []) [] m) x.held (rw x.there)
   same_step (RemoveAtom i c y f a) d r h = let x = removed 4 0 (i ∷ c ∷ y ∷ f ∷ a ∷ []) m r h in done (RemoveAtom i c y f a) r (replace_at 4 0 (i ∷ c ∷ y ∷ f ∷ a ∷ []) [] m) x.held (rw x.there)
   same_step (RemoveChainById i id) d r h =
-      found _ r _ refl (removed-by-id 0 3 (i ∷ []) m good (λ c. matches id c.id) (same_chain id) (agree-chain id) (ok tt) refl r h)
+      found _ r _ refl (removed-by-id 0 3 (i ∷ []) m good (λ c. matches id c.id) (same_chain id) (agree-chain id) (Ok tt) refl r h)
   same_step (RemoveResidueById i c serial code) d r h =
       found _ r _ refl
       (removed-by-id 1 2 (i ∷ c ∷ []) m good (λ y. eqb y.serial serial && matches_optional code y.code) (same_residue serial (option_of code)) (agree-residue serial code) _
@@ -217,7 +218,7 @@ module _ (n : ℕ) (m : Machine) (good : all (good_branch 4) m ≡ true) where
       (removed-by-id 2 1 (i ∷ c ∷ y ∷ []) m good (λ f. matches name f.name && matches_optional location f.location) (same_conformer name (option_of location)) (agree-conformer name location) _
       (flag_ok location.flag (bad_name AlternativeLocation) d) r h)
   same_step (RemoveAtomBySerialNumber i c y f serial) d r h =
-      found _ r _ refl (removed-by-id 3 0 (i ∷ c ∷ y ∷ f ∷ []) m good (λ a. eqb a.serial serial) (same_atom serial) (agree-atom serial) (ok tt) refl r h)
+      found _ r _ refl (removed-by-id 3 0 (i ∷ c ∷ y ∷ f ∷ []) m good (λ a. eqb a.serial serial) (same_atom serial) (agree-atom serial) (Ok tt) refl r h)
   same_step (RemoveAtomsBy i tree) d r h =
       let p : Fields zero → Bool = λ a. not (is_true (tree_value (term_value tables (enter zero a nowhere)) tree)) in
       let x = on-model i (λ (y : Struct 4). (y.0, remove_atoms_by 3 (chosen (search_for tree)) y.1)) (λ t. (t.0, keep_atoms 3 p t.1))

@@ -1,8 +1,7 @@
 -- The crate's five finds, at every position and for every accepted tree, list what document 01's definition lists from that start. Assumes nothing.
+use Rattle.std.specs.Prelude.{None, Option, Some, option_map}
 use Rattle.std.proofs.Common.{◌≡◌, ℕ, zero, suc, ◌+◌, ◌-◌, ◌≤◌, List, [], ◌∷◌, ◌++◌, map, length, sym, refl, ap, ◌∙◌, subst, ap₂, append_assoc, map-id, arith, le-leb}
 use mathlib.Core.List.{map-map, map-append}
-use mathlib.Core.Option
-use mathlib.Core.Option.{Option, none, some}
 use Rattle.machine.specs.Lists.{filter, nth, concat_map_from, and_then}
 use Rattle.machine.specs.Record.{Fields}
 use Rattle.machine.specs.Store.{Branch, Machine}
@@ -63,7 +62,7 @@ module _ (k : ℕ) (h : k ≤ 4) where
       ∙ concat_map_from-from (from k) (size j) _ _ (atoms-from j (omega arith) (below (suc j) n t.0 z)) (suc n) t.1
 
 -- the crate's things have the record numbers of their branches
-nth-items : (k i n : ℕ) (ts : List (Branch k)) → nth i (branch_items k n ts) ≡ Option.map (λ (u : ℕ × Branch k). branch_item k u.0 u.1) (nth i (numbered k n ts))
+nth-items : (k i n : ℕ) (ts : List (Branch k)) → nth i (branch_items k n ts) ≡ option_map (λ (u : ℕ × Branch k). branch_item k u.0 u.1) (nth i (numbered k n ts))
 unfolding numbered
 nth-items k i n [] = refl
 nth-items k zero n (t ∷ ts) = refl
@@ -71,13 +70,13 @@ nth-items k (suc i) n (t ∷ ts) = nth-items k i (n + size k t) ts
 
 -- one number more before the hits
 one_more : (p : List ℕ) (n : ℕ) (o : Option (List (List ℕ)))
-    → Option.map (map (λ (h : List ℕ). p ++ h)) (Option.map (map (λ (h : List ℕ). n ∷ h)) o) ≡ Option.map (map (λ (h : List ℕ). (p ++ (n ∷ [])) ++ h)) o
-one_more p n none = refl
-one_more p n (some hs) = ap some (map-map _ _ hs ∙ (λ i. map (λ (h : List ℕ). sym (append_assoc p (n ∷ []) h) i) hs))
+    → option_map (map (λ (h : List ℕ). p ++ h)) (option_map (map (λ (h : List ℕ). n ∷ h)) o) ≡ option_map (map (λ (h : List ℕ). (p ++ (n ∷ [])) ++ h)) o
+one_more p n None = refl
+one_more p n (Some hs) = ap Some (map-map _ _ hs ∙ (λ i. map (λ (h : List ℕ). sym (append_assoc p (n ∷ []) h) i) hs))
 
-no_more : (o : Option (List (List ℕ))) → Option.map (map (λ (h : List ℕ). [] ++ h)) o ≡ o
-no_more none = refl
-no_more (some hs) = ap some (map-id hs)
+no_more : (o : Option (List (List ℕ))) → option_map (map (λ (h : List ℕ). [] ++ h)) o ≡ o
+no_more None = refl
+no_more (Some hs) = ap Some (map-id hs)
 
 module _ (t : List ℕ) (r : Reads t) where
   -- below a site of which only the record numbers are known
@@ -100,29 +99,29 @@ module _ (t : List ℕ) (r : Reads t) where
   -- at a position under that site: low is the first kind below the start
   abbrev FindsUnder : (k : ℕ) (z : Site) (n low : ℕ) (is : List ℕ) (ts : List (Branch k)) → Type 0
   FindsUnder k z n low is ts =
-      Option.map (map (λ (h : List ℕ). z.numbers ++ h)) (find_under Says matches_at k is (search_for t) (branch_items k n ts)) ≡ Option.map (hits_among tables low t) (atoms_under k z n is ts)
+      option_map (map (λ (h : List ℕ). z.numbers ++ h)) (find_under Says matches_at k is (search_for t) (branch_items k n ts)) ≡ option_map (hits_among tables low t) (atoms_under k z n is ts)
 
   find-under : (k : ℕ) → k ≤ 4 → (z : Site) → Above k z.place → (n low : ℕ) (is : List ℕ) → low + k ≡ 5 + length is → (ts : List (Branch k)) → FindsUnder k z n low is ts
   unfolding find_under atoms_under branch_item
   find-under k l z w n low [] d ts =
       let e : low ≡ 5 - k = omega arith in
-      rw e (ap some (find-site k l z w n ts))
+      rw e (ap Some (find-site k l z w n ts))
   find-under zero l z w n low (i ∷ is) d ts = refl
   find-under (suc k) l z w n low (i ∷ is) d ts =
-      ap (λ (o : Option (Item Says (suc k))). Option.map (map (λ (h : List ℕ). z.numbers ++ h)) (and_then o down)) (nth-items (suc k) i n ts)
+      ap (λ (o : Option (Item Says (suc k))). option_map (map (λ (h : List ℕ). z.numbers ++ h)) (and_then o down)) (nth-items (suc k) i n ts)
       ∙ go (nth i (numbered (suc k) n ts)) (λ u. find-under k (omega arith) (below (suc k) u.0 u.1.0 z) (enter-over k (omega arith) u.1.0 z.place w) (suc u.0) low is (omega arith) u.1.1)
     where
       down : Item Says (suc k) → Option (List (List ℕ))
-      down m = Option.map (map (λ (h : List ℕ). m.0 ∷ h)) (find_under Says matches_at k is (search_for t) m.2)
+      down m = option_map (map (λ (h : List ℕ). m.0 ∷ h)) (find_under Says matches_at k is (search_for t) m.2)
 
       go : (o : Option (ℕ × Branch (suc k))) → ((u : ℕ × Branch (suc k)) → FindsUnder k (below (suc k) u.0 u.1.0 z) (suc u.0) low is u.1.1)
-          → Option.map (map (λ (h : List ℕ). z.numbers ++ h)) (and_then (Option.map (λ (u : ℕ × Branch (suc k)). branch_item (suc k) u.0 u.1) o) down)
-          ≡ Option.map (hits_among tables low t) (and_then o (λ u. atoms_under k (below (suc k) u.0 u.1.0 z) (suc u.0) is u.1.1))
-      go none on = refl
-      go (some u) on = one_more z.numbers u.0 (find_under Says matches_at k is (search_for t) (branch_items k (suc u.0) u.1.1)) ∙ on u
+          → option_map (map (λ (h : List ℕ). z.numbers ++ h)) (and_then (option_map (λ (u : ℕ × Branch (suc k)). branch_item (suc k) u.0 u.1) o) down)
+          ≡ option_map (hits_among tables low t) (and_then o (λ u. atoms_under k (below (suc k) u.0 u.1.0 z) (suc u.0) is u.1.1))
+      go None on = refl
+      go (Some u) on = one_more z.numbers u.0 (find_under Says matches_at k is (search_for t) (branch_items k (suc u.0) u.1.1)) ∙ on u
 
   -- the five finds
-  pub find-hits : (start : List ℕ) (m : Machine) → find_at start (search_for t) (pdb_of m) ≡ Option.map (hits_among tables (lowest start) t) (atoms_from start m)
+  pub find-hits : (start : List ℕ) (m : Machine) → find_at start (search_for t) (pdb_of m) ≡ option_map (hits_among tables (lowest start) t) (atoms_from start m)
   find-hits start m =
       ap (find_under Says matches_at 4 start (search_for t)) (items-same 4 0 m)
       ∙ sym (no_more _)

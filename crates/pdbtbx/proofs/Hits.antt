@@ -1,9 +1,8 @@
 -- The crate's `find`, at each of its five levels and for every machine, lists the atoms at which its search isn't false by its own terms; and these are
 -- document 01's. Assumes nothing.
+use Rattle.std.specs.Prelude.{None, Option, Some, option_map}
 use Rattle.std.proofs.Common.{◌≡◌, ℕ, zero, suc, ◌+◌, ◌-◌, ◌≤◌, Bool, true, false, cond, not, ◌&&◌, eqb, List, [], ◌∷◌, ◌++◌, map, sym, refl, ap, ◌∙◌, subst, ap₂, append_assoc, arith}
 use mathlib.Core.List.{map-map, map-append}
-use mathlib.Core.Option
-use mathlib.Core.Option.{Option, none, some}
 use Rattle.machine.specs.Lists.{or_else, and_then, keep, filter, sum, concat_map_from}
 use Rattle.machine.specs.Record.{Fields, Conformer, Atom, read_out}
 use Rattle.machine.specs.Store.{Branch, flat}
@@ -52,33 +51,33 @@ by_atom e t = and_then e.atom (λ a. (optional_matches t).atom (says_of 0 a))
 unfoldable pub told_at : Place → Term → Option Bool
 told_at e t = or_else (by_model e t) (or_else (by_chain e t) (or_else (by_residue e t) (or_else (by_conformer e t) (by_atom e t))))
 
-none_then : {A : Type 0} (o : Option A) → and_then {B = Bool} o (λ x. none) ≡ none
-none_then none = refl
-none_then (some x) = refl
+none_then : {A : Type 0} (o : Option A) → and_then {B = Bool} o (λ x. None) ≡ None
+none_then None = refl
+none_then (Some x) = refl
 
-else-none : (o : Option Bool) → or_else o none ≡ o
-else-none none = refl
-else-none (some x) = refl
+else-none : (o : Option Bool) → or_else o None ≡ o
+else-none None = refl
+else-none (Some x) = refl
 
-known-then : {A : Type 0} (o : Option A) (f g : A → Bool) → ((x : A) → f x ≡ g x) → to_tri (and_then o (λ x. some (f x))) ≡ known o g
-known-then none f g h = refl
-known-then (some x) f g h = ap decided (h x)
+known-then : {A : Type 0} (o : Option A) (f g : A → Bool) → ((x : A) → f x ≡ g x) → to_tri (and_then o (λ x. Some (f x))) ≡ known o g
+known-then None f g h = refl
+known-then (Some x) f g h = ap decided (h x)
 
-element-then : (n : ℕ) (o : Option Atom) → to_tri (and_then o (λ a. Option.map (λ (x : ℕ). eqb x n) (cond (eqb a.element 0) none (some a.element)))) ≡ element_is n o
-element-then n none = refl
-element-then n (some a) = go (eqb a.element 0)
+element-then : (n : ℕ) (o : Option Atom) → to_tri (and_then o (λ a. option_map (λ (x : ℕ). eqb x n) (cond (eqb a.element 0) None (Some a.element)))) ≡ element_is n o
+element-then n None = refl
+element-then n (Some a) = go (eqb a.element 0)
   where
-    go : (b : Bool) → to_tri (Option.map (λ (x : ℕ). eqb x n) (cond b none (some a.element))) ≡ cond b Undecided (decided (eqb a.element n))
+    go : (b : Bool) → to_tri (option_map (λ (x : ℕ). eqb x n) (cond b None (Some a.element))) ≡ cond b Undecided (decided (eqb a.element n))
     go true = refl
     go false = refl
 
 -- a conformer that isn't an amino acid is told first
 side_then : (o : Option Conformer) (p : Option Atom) (amino : Conformer → Bool) (f g : Atom → Bool) → ((c : Conformer) → amino c ≡ member tables.residues c.name) → ((a : Atom) → f a ≡ g a)
-    → to_tri (or_else (and_then o (λ c. cond (not (amino c)) (some false) none)) (and_then p (λ a. some (f a)))) ≡ among_residues tables o (known p g)
-side_then none p amino f g h k = known-then p f g k
-side_then (some c) p amino f g h k = rw (← h c) (go (amino c))
+    → to_tri (or_else (and_then o (λ c. cond (not (amino c)) (Some false) None)) (and_then p (λ a. Some (f a)))) ≡ among_residues tables o (known p g)
+side_then None p amino f g h k = known-then p f g k
+side_then (Some c) p amino f g h k = rw (← h c) (go (amino c))
   where
-    go : (b : Bool) → to_tri (or_else (cond (not b) (some false) none) (and_then p (λ a. some (f a)))) ≡ cond b (known p g) False
+    go : (b : Bool) → to_tri (or_else (cond (not b) (Some false) None) (and_then p (λ a. Some (f a)))) ≡ cond b (known p g) False
     go true = known-then p f g k
     go false = refl
 
@@ -139,23 +138,23 @@ abbrev pub Above : ℕ → Place → Type 0
 Above k e = window 1 (4 - k) e ≡ e
 
 -- what the levels above tell, then this one
-after_one : (a x : Option Bool) → or_else (or_else a none) x ≡ or_else a (or_else x none)
-after_one (some p) x = refl
-after_one none x = sym (else-none x)
+after_one : (a x : Option Bool) → or_else (or_else a None) x ≡ or_else a (or_else x None)
+after_one (Some p) x = refl
+after_one None x = sym (else-none x)
 
-after_two : (a b x : Option Bool) → or_else (or_else a (or_else b none)) x ≡ or_else a (or_else b (or_else x none))
-after_two (some p) b x = refl
-after_two none b x = after_one b x
+after_two : (a b x : Option Bool) → or_else (or_else a (or_else b None)) x ≡ or_else a (or_else b (or_else x None))
+after_two (Some p) b x = refl
+after_two None b x = after_one b x
 
-after-three : (a b c x : Option Bool) → or_else (or_else a (or_else b (or_else c none))) x ≡ or_else a (or_else b (or_else c (or_else x none)))
-after-three (some p) b c x = refl
-after-three none b c x = after_two b c x
+after-three : (a b c x : Option Bool) → or_else (or_else a (or_else b (or_else c None))) x ≡ or_else a (or_else b (or_else c (or_else x None)))
+after-three (Some p) b c x = refl
+after-three None b c x = after_two b c x
 
-after-four : (a b c d x : Option Bool) → or_else (or_else a (or_else b (or_else c (or_else d none)))) x ≡ or_else a (or_else b (or_else c (or_else d x)))
-after-four (some p) b c d x = refl
-after-four none (some p) c d x = refl
-after-four none none (some p) d x = refl
-after-four none none none d x = ap (λ (o : Option Bool). or_else o x) (else-none d)
+after-four : (a b c d x : Option Bool) → or_else (or_else a (or_else b (or_else c (or_else d None)))) x ≡ or_else a (or_else b (or_else c (or_else d x)))
+after-four (Some p) b c d x = refl
+after-four None (Some p) c d x = refl
+after-four None None (Some p) d x = refl
+after-four None None None d x = ap (λ (o : Option Bool). or_else o x) (else-none d)
 
 told-enter : (k : ℕ) → k ≤ 4 → (f : Fields k) (e : Place) → Above k e → (t : Term) → or_else (told_at e t) (matches_at k (says_of k f) t) ≡ told_at (enter k f e) t
 unfolding told_at matches_at enter window

@@ -1,12 +1,12 @@
 -- Identifiers: the crate's preparation of a text against document 01's rules. Assumes nothing.
+use Rattle.std.proofs.lemmas.Option.{none-some}
+use Rattle.std.specs.Prelude.{None, Ok, Option, Some, option_map}
 use Rattle.std.proofs.Common.{◌≡◌, ℕ, zero, suc, ◌≤◌, Bool, true, false, cond, not, ◌&&◌, eqb, ltb, leb, [], ◌∷◌, map, length, sym, refl, ap, ◌∙◌, ap₂, arith, ltb-true, lt-ltb, ne_eqb, eqb-true, le-leb, leb-true}
 use mathlib.Core.Bool.{false≢true}
-use mathlib.Core.Option
-use mathlib.Core.Option.{Option, none, some, none-ne-some}
 use lib.ListN.{length-map}
 use borrow.Author.Tests.{eqb-false}
 use Rattle.machine.specs.Lists.{is_empty, all, same, and_then}
-use Rattle.machine.specs.Answer.{Result, ok}
+use Rattle.machine.specs.Answer.{Result}
 use Rattle.machine.specs.Text.{Optional, optional_of, optional, pack, packed, unpacked, without_zeros, text_of, plain, to_upper, trim, fit, chain_id, uppercase_or, alternative_location, atom_name, matches, matches_optional}
 use Rattle.machine.specs.Edit.{accept}
 use Rattle.machine.specs.declared.Name.{Name}
@@ -33,13 +33,13 @@ valid-plain [] = refl
 valid-plain (b ∷ bs) = ap₂ ◌&&◌ (check-plain b) (valid-plain bs)
 
 -- what a preparation that gave something says
-prepared-test : (t u : Text) → prepare_identifier t ≡ some u → valid_identifier t && not (is_empty (trim t)) ≡ true
+prepared-test : (t u : Text) → prepare_identifier t ≡ Some u → valid_identifier t && not (is_empty (trim t)) ≡ true
 unfolding prepare_identifier
 prepared-test t u h = go (valid_identifier t && not (is_empty (trim t))) h
   where
-    go : (b : Bool) → cond b (some (trim t)) none ≡ some u → b ≡ true
+    go : (b : Bool) → cond b (Some (trim t)) None ≡ Some u → b ≡ true
     go true e = refl
-    go false e = absurd (none-ne-some u e)
+    go false e = absurd (none-some u e)
 
 -- ---- chain ids
 
@@ -47,9 +47,9 @@ pub record Chained (t : Text) : Type 0 where
   pub word : ℕ
   pub stored : chain_id t ≡ Stored word
   pub text : string word ≡ trim t
-  pub new : prepare_identifier (trim t) ≡ some (string word)
+  pub new : prepare_identifier (trim t) ≡ Some (string word)
 
-pub chained : (t u : Text) → length (trim t) ≤ 8 → prepare_identifier (trim t) ≡ some u → Chained t
+pub chained : (t u : Text) → length (trim t) ≤ 8 → prepare_identifier (trim t) ≡ Some u → Chained t
 unfolding prepare_identifier chain_id
 chained t u l h =
     let e = prepared-test (trim t) u h in
@@ -61,7 +61,7 @@ chained t u l h =
       word = pack (trim t);
       stored = rw (p, n, le-leb (length (trim t)) 8 l);
       text = k;
-      new = rw e (ap {B = Option Text} some (trim-twice t ∙ sym k));
+      new = rw e (ap {B = Option Text} Some (trim-twice t ∙ sym k));
     }
 
 -- ---- what is raised
@@ -69,13 +69,13 @@ chained t u l h =
 pub record Uppercased (t : Text) : Type 0 where
   pub word : ℕ
   pub stored : (other : Prepared) → uppercase_or t other ≡ Stored word
-  pub text : prepare_identifier_uppercase t ≡ some (string word)
-  pub again : prepare_identifier_uppercase (string word) ≡ some (string word)
-  pub present : option_string word ≡ some (string word)
+  pub text : prepare_identifier_uppercase t ≡ Some (string word)
+  pub again : prepare_identifier_uppercase (string word) ≡ Some (string word)
+  pub present : option_string word ≡ Some (string word)
 
-upper-some : (o : Option Text) (u : Text) → Option.map to_uppercase o ≡ some u → (v : Text) × (o ≡ some v)
-upper-some none u h = absurd (none-ne-some u h)
-upper-some (some v) u h = (v, refl)
+upper-some : (o : Option Text) (u : Text) → option_map to_uppercase o ≡ Some u → (v : Text) × (o ≡ Some v)
+upper-some None u h = absurd (none-some u h)
+upper-some (Some v) u h = (v, refl)
 
 zero-text : text_of 0 ≡ []
 unfolding text_of without_zeros unpacked
@@ -86,14 +86,14 @@ unfolding packed
 pack-empty = refl
 
 -- a word whose text isn't empty isn't 0
-word-present : (w : ℕ) → not (is_empty (string w)) ≡ true → option_string w ≡ some (string w)
+word-present : (w : ℕ) → not (is_empty (string w)) ≡ true → option_string w ≡ Some (string w)
 word-present w h = go (eqb w 0) refl
   where
-    go : (b : Bool) → eqb w 0 ≡ b → cond b none (some (text_of w)) ≡ some (text_of w)
+    go : (b : Bool) → eqb w 0 ≡ b → cond b None (Some (text_of w)) ≡ Some (text_of w)
     go false e = refl
     go true e = absurd (false≢true (sym (ap (λ (s : Text). not (is_empty s)) zero-text) ∙ ap (λ (v : ℕ). not (is_empty (text_of v))) (sym (eqb-true w 0 e)) ∙ h))
 
-module _ (t u : Text) (l : length (trim t) ≤ 8) (h : prepare_identifier_uppercase t ≡ some u) where
+module _ (t u : Text) (l : length (trim t) ≤ 8) (h : prepare_identifier_uppercase t ≡ Some u) where
   test : valid_identifier t && not (is_empty (trim t)) ≡ true
   unfolding prepare_identifier_uppercase
   test = let s = upper-some (prepare_identifier t) u h in prepared-test t s.0 s.1
@@ -107,17 +107,17 @@ module _ (t u : Text) (l : length (trim t) ≤ 8) (h : prepare_identifier_upperc
   kept : text_of (pack (to_uppercase (trim t))) ≡ to_uppercase (trim t)
   kept = text_of-pack (to_uppercase (trim t)) (omega (arith, length-map (trim t) to_upper)) (all-to_upper (trim t) ∙ all-trim t all_plain)
 
-  once : prepare_identifier_uppercase t ≡ some (to_uppercase (trim t))
+  once : prepare_identifier_uppercase t ≡ Some (to_uppercase (trim t))
   unfolding prepare_identifier_uppercase prepare_identifier
   once = rw test
 
-  twice : prepare_identifier_uppercase (to_uppercase (trim t)) ≡ some (to_uppercase (trim t))
+  twice : prepare_identifier_uppercase (to_uppercase (trim t)) ≡ Some (to_uppercase (trim t))
   unfolding prepare_identifier_uppercase prepare_identifier
   twice =
       let e : trim (to_uppercase (trim t)) ≡ to_uppercase (trim t) = trim-to_upper (trim t) ∙ ap to_uppercase (trim-twice t) in
       let v : valid_identifier (to_uppercase (trim t)) ≡ true = valid-plain (to_uppercase (trim t)) ∙ all-to_upper (trim t) ∙ all-trim t all_plain in
       let n : not (is_empty (to_uppercase (trim t))) ≡ true = ap not (is_empty-to_upper (trim t)) ∙ not-empty in
-      rw (e, v, n) (ap {B = Option Text} some (map-to_upper-twice (trim t)))
+      rw (e, v, n) (ap {B = Option Text} Some (map-to_upper-twice (trim t)))
 
   pub uppercase_or-ready : Uppercased t
   unfolding uppercase_or
@@ -125,19 +125,19 @@ module _ (t u : Text) (l : length (trim t) ≤ 8) (h : prepare_identifier_upperc
       record {
         word = pack (to_uppercase (trim t));
         stored = λ other. rw (all_plain, not-empty, length-map (trim t) to_upper, le-leb (length (trim t)) 8 l);
-        text = once ∙ ap {B = Option Text} some (sym kept);
-        again = ap prepare_identifier_uppercase kept ∙ twice ∙ ap {B = Option Text} some (sym kept);
+        text = once ∙ ap {B = Option Text} Some (sym kept);
+        again = ap prepare_identifier_uppercase kept ∙ twice ∙ ap {B = Option Text} Some (sym kept);
         present = word-present (pack (to_uppercase (trim t))) (ap (λ (s : Text). not (is_empty s)) kept ∙ ap not (is_empty-to_upper (trim t)) ∙ not-empty);
       }
 
 -- what isn't prepared is not raised
-pub uppercase_or-none : (t : Text) (other : Prepared) → prepare_identifier_uppercase t ≡ none → uppercase_or t other ≡ other
+pub uppercase_or-none : (t : Text) (other : Prepared) → prepare_identifier_uppercase t ≡ None → uppercase_or t other ≡ other
 unfolding uppercase_or prepare_identifier_uppercase prepare_identifier
 uppercase_or-none t other h = ap (λ (b : Bool). cond (b && not (is_empty (trim t))) (fit (map to_upper (trim t))) other) (sym (valid-plain t)) ∙ go (valid_identifier t && not (is_empty (trim t))) h
   where
-    go : (b : Bool) → Option.map to_uppercase (cond b (some (trim t)) none) ≡ none → cond b (fit (map to_upper (trim t))) other ≡ other
+    go : (b : Bool) → option_map to_uppercase (cond b (Some (trim t)) None) ≡ None → cond b (fit (map to_upper (trim t))) other ≡ other
     go false e = refl
-    go true e = absurd (none-ne-some (to_uppercase (trim t)) (sym e))
+    go true e = absurd (none-some (to_uppercase (trim t)) (sym e))
 
 -- ---- atom names
 
@@ -160,14 +160,14 @@ named t l h =
 
 pub record Given (stored : Result ℕ) (o : Option Text) : Type 0 where
   pub word : ℕ
-  pub accepted : stored ≡ ok word
+  pub accepted : stored ≡ Ok word
   pub text : o ≡ option_string word
   pub again : and_then (option_string word) prepare_identifier_uppercase ≡ option_string word
 
-pub absent : Given (ok 0) none
+pub absent : Given (Ok 0) None
 absent = record { word = 0; accepted = refl; text = refl; again = refl }
 
-pub raised : (n : Name) (other : Prepared) (t u : Text) → Short t → prepare_identifier_uppercase t ≡ some u → Given (accept n (uppercase_or t other)) (some u)
+pub raised : (n : Name) (other : Prepared) (t u : Text) → Short t → prepare_identifier_uppercase t ≡ Some u → Given (accept n (uppercase_or t other)) (Some u)
 raised n other t u s e =
     let r = uppercase_or-ready t u s e in
     record { word = r.word; accepted = rw (r.stored other); text = sym e ∙ r.text ∙ sym r.present; again = rw r.present r.again }
@@ -181,8 +181,8 @@ located zero t s = absent
 located (suc zero) t s = go (prepare_identifier_uppercase t) refl
   where
     go : (p : Option Text) → prepare_identifier_uppercase t ≡ p → Given (accept AlternativeLocation (alternative_location t)) p
-    go none e = rw (uppercase_or-none t Absent e) absent
-    go (some u) e = raised AlternativeLocation Absent t u (s u e) e
+    go None e = rw (uppercase_or-none t Absent e) absent
+    go (Some u) e = raised AlternativeLocation Absent t u (s u e) e
 located (suc (suc n)) t s = absurd s
 
 -- a text as given, beside one that is stored
@@ -207,11 +207,11 @@ module _ (w : ℕ) where
   unfolding matches
   matches-given zero t = go (eqb w 0)
     where
-      go : (b : Bool) → b ≡ same_option (cond b none (some (text_of w))) none
+      go : (b : Bool) → b ≡ same_option (cond b None (Some (text_of w))) None
       go true = refl
       go false = refl
   matches-given (suc n) t = rw (ne_eqb (suc n) 0 (λ e. omega arith)) (go (eqb w 0) refl)
     where
-      go : (b : Bool) → eqb w 0 ≡ b → matches t w ≡ same_option (cond b none (some (text_of w))) (some t)
+      go : (b : Bool) → eqb w 0 ≡ b → matches t w ≡ same_option (cond b None (Some (text_of w))) (Some t)
       go true e = rw (eqb-true w 0 e, zero-text) (no-match t)
       go false e = both e t

@@ -1,6 +1,6 @@
 -- A machine that a store can hold is what its structure packs to. Assumes nothing.
+use Rattle.std.specs.Prelude.{None, Some}
 use Rattle.std.proofs.Common.{◌≡◌, ℕ, zero, suc, ◌≤◌, Bool, true, false, cond, ◌&&◌, eqb, leb, List, [], ◌∷◌, map, sym, refl, ap₂, arith, eqb-true, leb-true}
-use mathlib.Core.Option.{none, some}
 use Rattle.machine.specs.Lists.{all}
 use Rattle.machine.specs.Text.{text_of, stored_by, atom_name}
 use Rattle.machine.specs.Record.{Fields, finite, good_values, good_fields}
@@ -13,14 +13,14 @@ use Rattle.pdbtbx.specs.Words.{option_string, option_element, says_of, struct_of
 option_back : (w : ℕ) → pack_option (option_string w) ≡ w
 option_back w = go (eqb w 0) refl
   where
-    go : (b : Bool) → eqb w 0 ≡ b → pack_option (cond b none (some (text_of w))) ≡ w
+    go : (b : Bool) → eqb w 0 ≡ b → pack_option (cond b None (Some (text_of w))) ≡ w
     go true e = sym (eqb-true w 0 e)
     go false e = pack-text_of w
 
 element-back : (w : ℕ) → element_word (option_element w) ≡ w
 element-back w = go (eqb w 0) refl
   where
-    go : (b : Bool) → eqb w 0 ≡ b → element_word (cond b none (some w)) ≡ w
+    go : (b : Bool) → eqb w 0 ≡ b → element_word (cond b None (Some w)) ≡ w
     go true e = sym (eqb-true w 0 e)
     go false e = refl
 

@@ -1,8 +1,8 @@
 -- Words compare as the crate's texts do, and its arms give the terms' values. Assumes nothing.
+use Rattle.std.specs.Prelude.{None, Some}
 use Rattle.std.proofs.Common.{◌≡◌, ℕ, zero, suc, ◌/◌, ◌%◌, ◌^◌, ◌<◌, Bool, true, false, cond, ◌&&◌, ◌||◌, eqb, ltb, leb, List, [], ◌∷◌, map, sym, refl, ap, ◌∙◌, ap₂, mod-lt, div-add-mod', arith, le-ltb, lt-ltb, eq-eqb, ne_eqb, eqb-true, le-leb}
 use Prim.Native.String.{String}
 use mathlib.Core.Bool.{and-false, false≢true}
-use mathlib.Core.Option.{none, some}
 use native.Mathlib.Nat.{one-le-pow}
 use borrow.Author.Tests.{eqb-false}
 use Rattle.machine.specs.Lists.{all, same, is_empty, bytes}
@@ -29,7 +29,7 @@ eqb_swap a b =
 pub same-option : (v w : ℕ) → same_option (option_string v) (option_string w) ≡ eqb v w
 same-option v w = go (eqb v 0) (eqb w 0) refl refl
   where
-    go : (a b : Bool) → eqb v 0 ≡ a → eqb w 0 ≡ b → same_option (cond a none (some (text_of v))) (cond b none (some (text_of w))) ≡ eqb v w
+    go : (a b : Bool) → eqb v 0 ≡ a → eqb w 0 ≡ b → same_option (cond a None (Some (text_of v))) (cond b None (Some (text_of w))) ≡ eqb v w
     go true true e f = sym (eq-eqb v w (eqb-true v 0 e ∙ sym (eqb-true w 0 f)))
     go true false e f = let z = eqb-true v 0 e in let n = eqb-false w 0 f in sym (ne_eqb v w (λ i. omega arith))
     go false true e f = let z = eqb-true w 0 f in let n = eqb-false v 0 e in sym (ne_eqb v w (λ i. omega arith))

@@ -1,10 +1,10 @@
 -- Every accepted tree is the postfix form of its search, and has Kleene's value of it. Assumes nothing.
+use Rattle.std.proofs.lemmas.Option.{none-some, same_Some}
+use Rattle.std.specs.Prelude.{None, Ok, Some, option_map}
 use Rattle.std.proofs.Common.{◌≡◌, ℕ, true, List, [], ◌∷◌, ◌++◌, map, sym, refl, ap, ◌∙◌, append_assoc, append-nil}
 use mathlib.Core.Bool.{false≢true}
-use mathlib.Core.Option
-use mathlib.Core.Option.{none, some, none-ne-some, some-injective}
 use Rattle.machine.specs.Lists.{and_then}
-use Rattle.machine.specs.Answer.{Result, ok}
+use Rattle.machine.specs.Answer.{Result}
 use Rattle.machine.specs.Query.{Stack, step, run, is_one, the_one, leaves_one, read_tree, tree_value}
 use Rattle.machine.specs.declared.Tri.{Tri}
 use Rattle.machine.specs.declared.Tri.TheVariants.{Undecided}
@@ -18,7 +18,7 @@ use Rattle.pdbtbx.specs.Demand.{postfix, value, Reads}
 
 -- ---- its value
 
-postfix-run : (v : Term → Tri) (s : Search Term) (z : List Tri) → run v (postfix s) z ≡ some (value v s ∷ z)
+postfix-run : (v : Term → Tri) (s : Search Term) (z : List Tri) → run v (postfix s) z ≡ Some (value v s ∷ z)
 unfolding postfix value run
 postfix-run v (Operator o a b) z =
     run-append v (postfix a) (postfix b ++ (Nodes.Binary o ∷ [])) z
@@ -36,7 +36,7 @@ flatten (s ∷ st) = flatten st ++ postfix s
 
 module _ (v : Term → Tri) where
   values : Searches → Stack
-  values o = Option.map (map (value v)) o
+  values o = option_map (map (value v)) o
 
   push_step : (n : Node) (st : List (Search Term)) → step v n (map (value v) st) ≡ values (push n st)
   unfolding value push values
@@ -54,30 +54,30 @@ module _ (v : Term → Tri) where
   build-run (n ∷ ns) st = rw (push_step n st) (go (push n st) (build-run ns))
     where
       go : (o : Searches) → ((q : List (Search Term)) → run v ns (map (value v) q) ≡ values (build ns q)) → and_then (values o) (run v ns) ≡ values (and_then o (build ns))
-      go none f = refl
-      go (some q) f = f q
+      go None f = refl
+      go (Some q) f = f q
 
-push-flat : (n : Node) (st q : List (Search Term)) → push n st ≡ some q → flatten st ++ (n ∷ []) ≡ flatten q
+push-flat : (n : Node) (st q : List (Search Term)) → push n st ≡ Some q → flatten st ++ (n ∷ []) ≡ flatten q
 unfolding push flatten postfix
-push-flat (Nodes.Single t) st q e = ap flatten (some-injective (Single t ∷ st) q e)
-push-flat (Nodes.Known b) st q e = ap flatten (some-injective (Known b ∷ st) q e)
-push-flat Nodes.Not [] q e = absurd (none-ne-some q e)
-push-flat Nodes.Not (a ∷ st) q e = append_assoc (flatten st) (postfix a) (Nodes.Not ∷ []) ∙ ap flatten (some-injective (Not a ∷ st) q e)
-push-flat (Nodes.Binary o) [] q e = absurd (none-ne-some q e)
-push-flat (Nodes.Binary o) (b ∷ []) q e = absurd (none-ne-some q e)
+push-flat (Nodes.Single t) st q e = ap flatten (same_Some (Single t ∷ st) q e)
+push-flat (Nodes.Known b) st q e = ap flatten (same_Some (Known b ∷ st) q e)
+push-flat Nodes.Not [] q e = absurd (none-some q e)
+push-flat Nodes.Not (a ∷ st) q e = append_assoc (flatten st) (postfix a) (Nodes.Not ∷ []) ∙ ap flatten (same_Some (Not a ∷ st) q e)
+push-flat (Nodes.Binary o) [] q e = absurd (none-some q e)
+push-flat (Nodes.Binary o) (b ∷ []) q e = absurd (none-some q e)
 push-flat (Nodes.Binary o) (b ∷ a ∷ st) q e =
     append_assoc (flatten st ++ postfix a) (postfix b) (Nodes.Binary o ∷ [])
     ∙ append_assoc (flatten st) (postfix a) (postfix b ++ (Nodes.Binary o ∷ []))
-    ∙ ap flatten (some-injective (Operator o a b ∷ st) q e)
+    ∙ ap flatten (same_Some (Operator o a b ∷ st) q e)
 
-build-flat : (ns : List Node) (st q : List (Search Term)) → build ns st ≡ some q → flatten st ++ ns ≡ flatten q
+build-flat : (ns : List Node) (st q : List (Search Term)) → build ns st ≡ Some q → flatten st ++ ns ≡ flatten q
 unfolding build
-build-flat [] st q e = append-nil (flatten st) ∙ ap flatten (some-injective st q e)
+build-flat [] st q e = append-nil (flatten st) ∙ ap flatten (same_Some st q e)
 build-flat (n ∷ ns) st q e = go (push n st) refl e (λ p. build-flat ns p q)
   where
-    go : (o : Searches) → push n st ≡ o → and_then o (build ns) ≡ some q → ((p : List (Search Term)) → build ns p ≡ some q → flatten p ++ ns ≡ flatten q) → flatten st ++ (n ∷ ns) ≡ flatten q
-    go none f k h = absurd (none-ne-some q k)
-    go (some p) f k h = sym (append_assoc (flatten st) (n ∷ []) ns) ∙ ap (λ (l : List Node). l ++ ns) (push-flat n st p f) ∙ h p k
+    go : (o : Searches) → push n st ≡ o → and_then o (build ns) ≡ Some q → ((p : List (Search Term)) → build ns p ≡ Some q → flatten p ++ ns ≡ flatten q) → flatten st ++ (n ∷ ns) ≡ flatten q
+    go None f k h = absurd (none-some q k)
+    go (Some p) f k h = sym (append_assoc (flatten st) (n ∷ []) ns) ∙ ap (λ (l : List Node). l ++ ns) (push-flat n st p f) ∙ h p k
 
 -- the one search that is left has the tree's nodes
 one-search : (ns : List Node) → is_one (run (λ (u : Term). Undecided) ns []) ≡ true → ns ≡ postfix (the_search (build ns []))
@@ -85,16 +85,16 @@ unfolding values flatten
 one-search ns h = go (build ns []) refl (ap is_one (sym (build-run (λ (u : Term). Undecided) ns [])) ∙ h)
   where
     go : (o : Searches) → build ns [] ≡ o → is_one (values (λ (u : Term). Undecided) o) ≡ true → ns ≡ postfix (the_search o)
-    go none e i = absurd (false≢true i)
-    go (some []) e i = absurd (false≢true i)
-    go (some (s ∷ [])) e i = build-flat ns [] (s ∷ []) e
-    go (some (a ∷ b ∷ st)) e i = absurd (false≢true i)
+    go None e i = absurd (false≢true i)
+    go (Some []) e i = absurd (false≢true i)
+    go (Some (s ∷ [])) e i = build-flat ns [] (s ∷ []) e
+    go (Some (a ∷ b ∷ st)) e i = absurd (false≢true i)
 
-pub reads : (t : List ℕ) (ns : List Node) → read_tree t ≡ ok ns → Reads t
+pub reads : (t : List ℕ) (ns : List Node) → read_tree t ≡ Ok ns → Reads t
 unfolding tree_value search_of leaves_one
 reads t ns h =
     let e : ns ≡ postfix (the_search (build ns [])) = one-search ns (accepted t ns h).one in
     record {
-      nodes = rw h (ap {B = Result (List Node)} ok e);
+      nodes = rw h (ap {B = Result (List Node)} Ok e);
       kleene = λ v. rw h (ap (λ (l : List Node). the_one (run v l [])) e ∙ ap the_one (postfix-run v (the_search (build ns [])) []));
     }

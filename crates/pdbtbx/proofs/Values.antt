@@ -1,8 +1,9 @@
 -- The crate's staged find lists what Kleene's tables call a hit, whatever the terms are and whatever a level tells of them.
 -- Assumes nothing.
+use Rattle.std.proofs.lemmas.Option.{none-some}
+use Rattle.std.specs.Prelude.{None, Option, Some}
 use Rattle.std.proofs.Common.{◌≡◌, ℕ, zero, suc, Bool, true, false, not, List, [], ◌∷◌, ◌++◌, map, sym, refl, ap, ◌∙◌}
 use mathlib.Core.Bool.{xor, false≢true}
-use mathlib.Core.Option.{Option, none, some, none-ne-some}
 use Rattle.machine.specs.Lists.{or_else, keep, filter, concat_map}
 use Rattle.machine.specs.Kleene.{decided, not_t, apply_t, is_hit}
 use Rattle.machine.specs.declared.Tri.{Tri}
@@ -18,20 +19,20 @@ use Rattle.pdbtbx.specs.Demand.{value}
 
 -- what was told first counts
 abbrev pub over : Option Bool → Tri → Tri
-over none w = w
-over (some b) w = decided b
+over None w = w
+over (Some b) w = decided b
 
 over-else : (a b : Option Bool) (w : Tri) → over a (over b w) ≡ over (or_else a b) w
-over-else none b w = refl
-over-else (some x) b w = refl
+over-else None b w = refl
+over-else (Some x) b w = refl
 
 pub over-open : (a : Option Bool) → over a Undecided ≡ to_tri a
-over-open none = refl
-over-open (some x) = refl
+over-open None = refl
+over-open (Some x) = refl
 
 tri-else : (a b : Option Bool) → over a (to_tri b) ≡ to_tri (or_else a b)
-tri-else none b = refl
-tri-else (some x) b = refl
+tri-else None b = refl
+tri-else (Some x) b = refl
 
 module _ {T : Type 0} where
   pub value_same : (v w : T → Tri) → ((t : T) → v t ≡ w t) → (s : Search T) → value v s ≡ value w s
@@ -45,42 +46,42 @@ module _ {T : Type 0} where
 
   known-value : (v : T → Tri) (s : Search T) (o : Option Bool) → complete s ≡ o → to_tri o ⊑ value v s
   unfolding value complete
-  known-value v s none e = tt
-  known-value v (Known b) (some true) e = let i : b ≡ true = cc in rw i
-  known-value v (Known b) (some false) e = let i : b ≡ false = cc in rw i
-  known-value v (Operator o a b) (some c) e = absurd (none-ne-some c e)
-  known-value v (Not a) (some c) e = absurd (none-ne-some c e)
-  known-value v (Single t) (some c) e = absurd (none-ne-some c e)
+  known-value v s None e = tt
+  known-value v (Known b) (Some true) e = let i : b ≡ true = cc in rw i
+  known-value v (Known b) (Some false) e = let i : b ≡ false = cc in rw i
+  known-value v (Operator o a b) (Some c) e = absurd (none-some c e)
+  known-value v (Not a) (Some c) e = absurd (none-some c e)
+  known-value v (Single t) (Some c) e = absurd (none-some c e)
 
   arms-value : (v : T → Tri) (o : Ops) (x y : Option Bool) (a b : Search T) → to_tri x ⊑ value v a → to_tri y ⊑ value v b
       → value v (arms o x y (Operator o a b)) ≡ apply_t o (value v a) (value v b)
   unfolding value xor
-  arms-value v And none none a b h k = refl
-  arms-value v And none (some true) a b h k = refl
-  arms-value v And none (some false) a b h k = rw k (sym (and-false (value v a)))
-  arms-value v And (some false) y a b h k = rw h
-  arms-value v And (some true) none a b h k = refl
-  arms-value v And (some true) (some true) a b h k = rw (h, k)
-  arms-value v And (some true) (some false) a b h k = rw (h, k)
-  arms-value v Or none none a b h k = refl
-  arms-value v Or none (some true) a b h k = rw k (sym (or-true (value v a)))
-  arms-value v Or none (some false) a b h k = refl
-  arms-value v Or (some true) y a b h k = rw h
-  arms-value v Or (some false) none a b h k = refl
-  arms-value v Or (some false) (some true) a b h k = rw (h, k)
-  arms-value v Or (some false) (some false) a b h k = rw (h, k)
-  arms-value v Xor none y a b h k = refl
-  arms-value v Xor (some x) none a b h k = refl
-  arms-value v Xor (some true) (some true) a b h k = rw (h, k)
-  arms-value v Xor (some true) (some false) a b h k = rw (h, k)
-  arms-value v Xor (some false) (some true) a b h k = rw (h, k)
-  arms-value v Xor (some false) (some false) a b h k = rw (h, k)
+  arms-value v And None None a b h k = refl
+  arms-value v And None (Some true) a b h k = refl
+  arms-value v And None (Some false) a b h k = rw k (sym (and-false (value v a)))
+  arms-value v And (Some false) y a b h k = rw h
+  arms-value v And (Some true) None a b h k = refl
+  arms-value v And (Some true) (Some true) a b h k = rw (h, k)
+  arms-value v And (Some true) (Some false) a b h k = rw (h, k)
+  arms-value v Or None None a b h k = refl
+  arms-value v Or None (Some true) a b h k = rw k (sym (or-true (value v a)))
+  arms-value v Or None (Some false) a b h k = refl
+  arms-value v Or (Some true) y a b h k = rw h
+  arms-value v Or (Some false) None a b h k = refl
+  arms-value v Or (Some false) (Some true) a b h k = rw (h, k)
+  arms-value v Or (Some false) (Some false) a b h k = rw (h, k)
+  arms-value v Xor None y a b h k = refl
+  arms-value v Xor (Some x) None a b h k = refl
+  arms-value v Xor (Some true) (Some true) a b h k = rw (h, k)
+  arms-value v Xor (Some true) (Some false) a b h k = rw (h, k)
+  arms-value v Xor (Some false) (Some true) a b h k = rw (h, k)
+  arms-value v Xor (Some false) (Some false) a b h k = rw (h, k)
 
   negated-value : (v : T → Tri) (x : Option Bool) (a : Search T) → to_tri x ⊑ value v a → value v (negated x (Not a)) ≡ not_t (value v a)
   unfolding value
-  negated-value v none a h = refl
-  negated-value v (some true) a h = rw h
-  negated-value v (some false) a h = rw h
+  negated-value v None a h = refl
+  negated-value v (Some true) a h = rw h
+  negated-value v (Some false) a h = rw h
 
   pub simplify-value : (v : T → Tri) (s : Search T) → value v (simplify s) ≡ value v s
   unfolding value simplify
@@ -97,33 +98,33 @@ module _ {T : Type 0} where
 
   arms-complete : (o : Ops) (x y : Option Bool) (a b : Search T) → to_tri (complete (arms o x y (Operator o a b))) ≡ apply_t o (to_tri x) (to_tri y)
   unfolding complete xor
-  arms-complete And none none a b = refl
-  arms-complete And none (some true) a b = refl
-  arms-complete And none (some false) a b = refl
-  arms-complete And (some false) y a b = refl
-  arms-complete And (some true) none a b = refl
-  arms-complete And (some true) (some true) a b = refl
-  arms-complete And (some true) (some false) a b = refl
-  arms-complete Or none none a b = refl
-  arms-complete Or none (some true) a b = refl
-  arms-complete Or none (some false) a b = refl
-  arms-complete Or (some true) y a b = refl
-  arms-complete Or (some false) none a b = refl
-  arms-complete Or (some false) (some true) a b = refl
-  arms-complete Or (some false) (some false) a b = refl
-  arms-complete Xor none y a b = refl
-  arms-complete Xor (some true) none a b = refl
-  arms-complete Xor (some false) none a b = refl
-  arms-complete Xor (some true) (some true) a b = refl
-  arms-complete Xor (some true) (some false) a b = refl
-  arms-complete Xor (some false) (some true) a b = refl
-  arms-complete Xor (some false) (some false) a b = refl
+  arms-complete And None None a b = refl
+  arms-complete And None (Some true) a b = refl
+  arms-complete And None (Some false) a b = refl
+  arms-complete And (Some false) y a b = refl
+  arms-complete And (Some true) None a b = refl
+  arms-complete And (Some true) (Some true) a b = refl
+  arms-complete And (Some true) (Some false) a b = refl
+  arms-complete Or None None a b = refl
+  arms-complete Or None (Some true) a b = refl
+  arms-complete Or None (Some false) a b = refl
+  arms-complete Or (Some true) y a b = refl
+  arms-complete Or (Some false) None a b = refl
+  arms-complete Or (Some false) (Some true) a b = refl
+  arms-complete Or (Some false) (Some false) a b = refl
+  arms-complete Xor None y a b = refl
+  arms-complete Xor (Some true) None a b = refl
+  arms-complete Xor (Some false) None a b = refl
+  arms-complete Xor (Some true) (Some true) a b = refl
+  arms-complete Xor (Some true) (Some false) a b = refl
+  arms-complete Xor (Some false) (Some true) a b = refl
+  arms-complete Xor (Some false) (Some false) a b = refl
 
   negated-complete : (x : Option Bool) (a : Search T) → to_tri (complete (negated x (Not a))) ≡ not_t (to_tri x)
   unfolding complete
-  negated-complete none a = refl
-  negated-complete (some true) a = refl
-  negated-complete (some false) a = refl
+  negated-complete None a = refl
+  negated-complete (Some true) a = refl
+  negated-complete (Some false) a = refl
 
   -- a simplified search is known where its value is decided
   pub simplify-complete : (s : Search T) → to_tri (complete (simplify s)) ≡ value untold s
@@ -138,9 +139,9 @@ module _ {T : Type 0} where
 
   answered-value : (v : T → Tri) (t : T) (o : Option Bool) → value v (answered t o) ≡ over o (v t)
   unfolding value
-  answered-value v t none = refl
-  answered-value v t (some true) = refl
-  answered-value v t (some false) = refl
+  answered-value v t None = refl
+  answered-value v t (Some true) = refl
+  answered-value v t (Some false) = refl
 
   -- a search that was told of a level has the value that it had with the level's terms told
   pub add-value : (f : T → Option Bool) (v : T → Tri) (s : Search T) → value v (add_info f s) ≡ value (λ t. over (f t) (v t)) s
@@ -162,14 +163,14 @@ module _ {T : Type 0} where
   add-complete f (Known b) = simplified (Known b) _ refl
 
 hit-unwrap : (o : Option Bool) → unwrap_or true o ≡ is_hit (to_tri o)
-hit-unwrap none = refl
-hit-unwrap (some true) = refl
-hit-unwrap (some false) = refl
+hit-unwrap None = refl
+hit-unwrap (Some true) = refl
+hit-unwrap (Some false) = refl
 
-known-false : (o : Option Bool) → not (is_known false o) ≡ false → o ≡ some false
-known-false none h = absurd (false≢true (sym h))
-known-false (some true) h = absurd (false≢true (sym h))
-known-false (some false) h = refl
+known-false : (o : Option Bool) → not (is_known false o) ≡ false → o ≡ Some false
+known-false None h = absurd (false≢true (sym h))
+known-false (Some true) h = absurd (false≢true (sym h))
+known-false (Some false) h = refl
 
 -- ---- lists
 
@@ -228,9 +229,9 @@ module _ (F : ℕ → Type 0) {T : Type 0} (matches : (k : ℕ) → F k → T �
   find-listed (suc k) told s q h items =
       concat_map-filter _ _ _ _
       (λ m e. ap (map (λ (l : List ℕ). m.0 ∷ l)) (find-listed k (λ t. or_else (told t) (matches (suc k) m.1 t)) s (add_info (matches (suc k) m.1) q) (told_more told (matches (suc k) m.1) s q h) m.2))
-      (λ m e. ap (map (λ (l : List ℕ). m.0 ∷ l)) (false_below k (λ t. or_else (told t) (matches (suc k) m.1 t)) s (λ w. sym (told_more told (matches (suc k) m.1) s q h w) ∙ known-value w _ (some false) (known-false _ e)) m.2))
+      (λ m e. ap (map (λ (l : List ℕ). m.0 ∷ l)) (false_below k (λ t. or_else (told t) (matches (suc k) m.1 t)) s (λ w. sym (told_more told (matches (suc k) m.1) s q h w) ∙ known-value w _ (Some false) (known-false _ e)) m.2))
       items
 
   -- nothing told yet
-  pub find-all : (k : ℕ) (s : Search T) (items : List (Item F k)) → find F matches k s items ≡ listed k (λ t. none) s items
-  find-all k s items = find-listed k (λ t. none) s s (λ w. refl) items
+  pub find-all : (k : ℕ) (s : Search T) (items : List (Item F k)) → find F matches k s items ≡ listed k (λ t. None) s items
+  find-all k s items = find-listed k (λ t. None) s s (λ w. refl) items

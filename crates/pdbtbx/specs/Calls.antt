@@ -1,8 +1,7 @@
 -- The edits and trees given to pdbtbx 0.12.0: for each, the crate's own call. Assumes nothing.
-use Rattle.std.specs.Prelude.{ℕ, zero, suc, Bool, true, false, cond, ◌&&◌, List, [], ◌∷◌, ◌==◌}
-use Rattle.std.proofs.Math.Option.{Option, none, some, map}
+use Rattle.std.specs.Prelude.{ℕ, zero, suc, Bool, true, false, cond, ◌&&◌, List, [], ◌∷◌, ◌==◌, Err, None, Ok, Option, Some, option_map}
 use Rattle.machine.specs.Lists.{same, and_then}
-use Rattle.machine.specs.Answer.{Result, ok, refused}
+use Rattle.machine.specs.Answer.{Result}
 use Rattle.machine.specs.Text.{Optional}
 use Rattle.machine.specs.Query.{read_tree}
 use Rattle.machine.specs.Edit.{Addition, Call, AddModel, AddAtom, RemoveChain, RemoveResidue, RemoveConformer, RemoveAtom, RemoveChainById, RemoveResidueById, RemoveConformerById, RemoveAtomBySerialNumber, RemoveAtomsBy, RemoveEmpty, JoinModels, JoinChains, JoinResidues, JoinConformers, SetElement}
@@ -23,19 +22,19 @@ use Rattle.pdbtbx.specs.Edits.{Arguments, add_atom, add_model, at_position, remo
 
 -- an optional argument as an `Option<&str>`; a flag above 1 has none, and is refused
 abbrev pub present : ℕ → Text → Option Text
-present zero t = none
-present (suc n) t = some t
+present zero t = None
+present (suc n) t = Some t
 
 abbrev pub option_of : Optional → Option Text
 option_of o = present o.flag o.text
 
 -- change request §3: "The oracle is from now on given prepared codes and locations." A code that can't be prepared is given as it is, which is a panic
 abbrev pub or_given : Text → Option Text → Text
-or_given t none = t
-or_given t (some u) = u
+or_given t None = t
+or_given t (Some u) = u
 
 abbrev pub prepared_code : Optional → Option Text
-prepared_code o = map (λ t. or_given t (prepare_identifier_uppercase t)) (option_of o)
+prepared_code o = option_map (λ t. or_given t (prepare_identifier_uppercase t)) (option_of o)
 
 -- "a location that is bad or blank looks for an absent one"
 abbrev pub prepared_location : Optional → Option Text
@@ -67,28 +66,28 @@ abbrev pub Searches : Type 0
 Searches = Option (List (Search Term))
 
 unfoldable pub push : Node → List (Search Term) → Searches
-push (Nodes.Single t) st = some (Single t ∷ st)
-push (Nodes.Known b) st = some (Known b ∷ st)
-push Nodes.Not [] = none
-push Nodes.Not (a ∷ st) = some (Not a ∷ st)
-push (Nodes.Binary o) [] = none
-push (Nodes.Binary o) (b ∷ []) = none
-push (Nodes.Binary o) (b ∷ a ∷ st) = some (Operator o a b ∷ st)
+push (Nodes.Single t) st = Some (Single t ∷ st)
+push (Nodes.Known b) st = Some (Known b ∷ st)
+push Nodes.Not [] = None
+push Nodes.Not (a ∷ st) = Some (Not a ∷ st)
+push (Nodes.Binary o) [] = None
+push (Nodes.Binary o) (b ∷ []) = None
+push (Nodes.Binary o) (b ∷ a ∷ st) = Some (Operator o a b ∷ st)
 
 unfoldable pub build : List Node → List (Search Term) → Searches
-build [] st = some st
+build [] st = Some st
 build (n ∷ ns) st = and_then (push n st) (build ns)
 
 -- what isn't accepted as a tree is given to no call; Known(false) stands there
 abbrev pub the_search : Searches → Search Term
-the_search none = Known false
-the_search (some []) = Known false
-the_search (some (s ∷ [])) = s
-the_search (some (b ∷ a ∷ st)) = Known false
+the_search None = Known false
+the_search (Some []) = Known false
+the_search (Some (s ∷ [])) = s
+the_search (Some (b ∷ a ∷ st)) = Known false
 
 abbrev pub search_in : Result (List Node) → Search Term
-search_in (ok ns) = the_search (build ns [])
-search_in (refused r) = Known false
+search_in (Ok ns) = the_search (build ns [])
+search_in (Err r) = Known false
 
 unfoldable pub search_of : List ℕ → Search Term
 search_of t = search_in (read_tree t)
@@ -133,7 +132,7 @@ same_atom serial a = a.serial == serial
 -- change request §6: "Setting it where one is present changes nothing and gives found 0." The crate's method overwrites, so it is asked where there
 -- is none: if atom.element().is_none() { atom.set_element(element); true } else { false }
 unfoldable pub fill_element : ℕ → Struct 0 → Answer (Struct 0)
-fill_element element atom = cond (is_none atom.element) (some (true, set_element element atom)) (some (false, atom))
+fill_element element atom = cond (is_none atom.element) (Some (true, set_element element atom)) (Some (false, atom))
 
 unfoldable pub edit : Call → PDB → Answer PDB
 edit (AddModel serial) pdb = add_model serial pdb
@@ -146,8 +145,8 @@ edit (RemoveChainById i id) pdb = at_position 0 4 (i ∷ []) (remove_by_id 3 (sa
 edit (RemoveResidueById i c serial code) pdb = at_position 1 3 (i ∷ c ∷ []) (remove_by_id 2 (same_residue serial (option_of code))) pdb
 edit (RemoveConformerById i c r name location) pdb = at_position 2 2 (i ∷ c ∷ r ∷ []) (remove_by_id 1 (same_conformer name (option_of location))) pdb
 edit (RemoveAtomBySerialNumber i c r f serial) pdb = at_position 3 1 (i ∷ c ∷ r ∷ f ∷ []) (remove_by_id 0 (same_atom serial)) pdb
-edit (RemoveAtomsBy i tree) pdb = at_position 0 4 (i ∷ []) (λ (m : Struct 4). some (true, (m.0, remove_atoms_by 3 (chosen (search_for tree)) m.1))) pdb
-edit (RemoveEmpty i) pdb = at_position 0 4 (i ∷ []) (λ (m : Struct 4). some (true, remove_empty 2 m)) pdb
+edit (RemoveAtomsBy i tree) pdb = at_position 0 4 (i ∷ []) (λ (m : Struct 4). Some (true, (m.0, remove_atoms_by 3 (chosen (search_for tree)) m.1))) pdb
+edit (RemoveEmpty i) pdb = at_position 0 4 (i ∷ []) (λ (m : Struct 4). Some (true, remove_empty 2 m)) pdb
 edit (JoinModels i i') pdb = join_at 0 3 (i ∷ []) (i' ∷ []) pdb
 edit (JoinChains i c i' c') pdb = join_at 1 2 (i ∷ c ∷ []) (i' ∷ c' ∷ []) pdb
 edit (JoinResidues i c r i' c' r') pdb = join_at 2 1 (i ∷ c ∷ r ∷ []) (i' ∷ c' ∷ r' ∷ []) pdb
@@ -156,5 +155,5 @@ edit (SetElement i c r f a e) pdb = at_position 4 0 (i ∷ c ∷ r ∷ f ∷ a �
 
 -- one call after another, none of which panics: what they return, and the structure afterwards
 unfoldable pub edits : List Call → PDB → Option (List Bool × PDB)
-edits [] pdb = some ([], pdb)
-edits (c ∷ cs) pdb = and_then (edit c pdb) (λ r. and_then (edits cs r.1) (λ q. some (r.0 ∷ q.0, q.1)))
+edits [] pdb = Some ([], pdb)
+edits (c ∷ cs) pdb = and_then (edit c pdb) (λ r. and_then (edits cs r.1) (λ q. Some (r.0 ∷ q.0, q.1)))

@@ -1,9 +1,8 @@
 -- The second demand: "Elsewhere edits and hits equal the crate's on every input in its domain, and find equals Kleene's strong three-valued
 -- reading." What is claimed stands here; it is proved in proofs/Demand.antt. Assumes nothing.
-use Rattle.std.specs.Prelude.{◌≡◌, ℕ, zero, suc, ◌-◌, ◌≤◌, Bool, false, cond, List, [], ◌∷◌, ◌++◌, map, length, nat_le, slice_index}
-use Rattle.std.proofs.Math.Option.{some}
+use Rattle.std.specs.Prelude.{◌≡◌, ℕ, zero, suc, ◌-◌, ◌≤◌, Bool, false, cond, List, [], ◌∷◌, ◌++◌, map, length, nat_le, slice_index, Ok, Some, Err}
 use Rattle.machine.specs.Lists.{keep, filter, sum, same}
-use Rattle.machine.specs.Answer.{ok, edited_numbers}
+use Rattle.machine.specs.Answer.{edited_numbers}
 use Rattle.machine.specs.Text.{trim}
 use Rattle.machine.specs.Store.{stored, capacity, lay_out, open_run}
 use Rattle.machine.specs.Kleene.{decided, not_t, apply_t}
@@ -15,7 +14,6 @@ use Rattle.machine.specs.declared.Tri.{Tri}
 use Rattle.machine.specs.declared.Term.{Term}
 use Rattle.machine.specs.declared.Node.{Node}
 use Rattle.machine.specs.declared.Node.TheVariants as Nodes
-use Rattle.machine.specs.declared.Edited.TheVariants.{Done, Refused}
 use Rattle.machine.specs.declared.Refusal.TheVariants.{NoCapacity}
 use Rattle.pdbtbx.specs.Std.{Text}
 use Rattle.pdbtbx.specs.Structs.{PDB, prepare_identifier_uppercase}
@@ -42,7 +40,7 @@ value v (Known b) = decided b
 
 -- an accepted tree is the postfix form of its search, and has Kleene's value of it
 pub record Reads (t : List ℕ) : Type 0 where
-  pub nodes : read_tree t ≡ ok (postfix (search_of t))
+  pub nodes : read_tree t ≡ Ok (postfix (search_of t))
   pub kleene : (v : Term → Tri) → tree_value v t ≡ value v (search_of t)
 
 -- ---- the domain
@@ -53,7 +51,7 @@ Short t = length (trim t) ≤ 8
 
 -- one that can be prepared is short; a location that can't be is absent, whatever its length
 abbrev pub Fitting : Text → Type 0
-Fitting t = (u : Text) → prepare_identifier_uppercase t ≡ some u → Short t
+Fitting t = (u : Text) → prepare_identifier_uppercase t ≡ Some u → Short t
 
 -- an `Option` is absent or present, and what is present meets P
 abbrev pub Flagged : ℕ → Type 0 → Type 0
@@ -111,8 +109,8 @@ accepted_of (c ∷ cs) (a ∷ answers) = keep (accepts a) c (accepted_of cs answ
 unfoldable pub outcome : ℕ → List ℕ → PDB → Bool → PDB → List ℕ × List ℕ
 outcome n store pdb found after =
     cond (nat_le (sum (count_of 4) after) (capacity n))
-    (edited_numbers (Done (bit found) (stored (machine_from pdb) - stored (machine_from after))), lay_out n (machine_from after))
-    (edited_numbers (Refused NoCapacity), store)
+    (edited_numbers (Ok (record { found = bit found; removed = stored (machine_from pdb) - stored (machine_from after) })), lay_out n (machine_from after))
+    (edited_numbers (Err NoCapacity), store)
 
 module _ (w : List ℕ) (calls : List Call) where
   -- the store after the calls, and their answers
@@ -126,7 +124,7 @@ module _ (w : List ℕ) (calls : List Call) where
     -- the crate, given the accepted calls on an empty `PDB`, doesn't panic; what its calls return, and its structure afterwards
     pub bools : List Bool
     pub pdb : PDB
-    pub ran : edits (accepted_of calls answers) [] ≡ some (bools, pdb)
+    pub ran : edits (accepted_of calls answers) [] ≡ Some (bools, pdb)
     -- the field found of each accepted result is what the crate's call returned
     pub founds : map found_by (filter accepts answers) ≡ map bit bools
     -- the store's words are the crate's structure, packed and laid out; its texts are the texts of those words, so packing lost nothing
@@ -135,6 +133,6 @@ module _ (w : List ℕ) (calls : List Call) where
     -- an accepted run of find, from any start, has a search of the crate's, and lists what the crate's `find` gives for it at that start: `PDB::find`, or the
     -- `find` of a model, a chain, a residue or a conformer. The search is given with And Not Hetero on Backbone and SideChain
     pub reads : (start t out : List ℕ) → Accepted (find_from store start t out) → Reads t
-    pub hits : (start t out : List ℕ) → Accepted (find_from store start t out) → find_at start (search_for t) pdb ≡ some (list (find_from store start t out))
+    pub hits : (start t out : List ℕ) → Accepted (find_from store start t out) → find_at start (search_for t) pdb ≡ Some (list (find_from store start t out))
     -- the other direction, for any call more: in the domain, what the crate takes the store takes, unless it has no room
-    pub takes : (c : Call) → InDomain c → (found : Bool) (after : PDB) → edit c pdb ≡ some (found, after) → store_step store c ≡ outcome (length w) store pdb found after
+    pub takes : (c : Call) → InDomain c → (found : Bool) (after : PDB) → edit c pdb ≡ Some (found, after) → store_step store c ≡ outcome (length w) store pdb found after

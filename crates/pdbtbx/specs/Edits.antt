@@ -1,8 +1,6 @@
 -- pdbtbx 0.12.0: the edits of `PDB`, `Model`, `Chain`, `Residue`, `Conformer` and `Atom`, function by function. `none` is a panic, after which
 -- the crate's structure may be half changed: nothing is said of it. Assumes nothing.
-use Rattle.std.specs.Prelude.{ℕ, zero, suc, Bool, true, false, cond, not, ◌&&◌, List, [], ◌∷◌, ◌++◌, map, length, ◌==◌, nat_lt}
-use Rattle.std.proofs.Math.Option
-use Rattle.std.proofs.Math.Option.{Option, none, some}
+use Rattle.std.specs.Prelude.{ℕ, zero, suc, Bool, true, false, cond, not, ◌&&◌, List, [], ◌∷◌, ◌++◌, map, length, ◌==◌, nat_lt, None, Option, Some, option_map}
 use Rattle.machine.specs.Lists.{filter, nth, and_then, all, same}
 use Rattle.machine.specs.Text.{trim}
 use Rattle.machine.specs.Record.{finite}
@@ -39,7 +37,7 @@ pub record Arguments : Type 0 where
 unfoldable pub atom_new : Arguments → Option Atom
 atom_new a =
     cond (valid_identifier (trim a.name) && all finite (a.x ∷ a.y ∷ a.z ∷ a.occupancy ∷ a.b_factor ∷ []))
-    (some (record {
+    (Some (record {
       hetero = a.hetero;
       serial = a.serial;
       name = to_uppercase (trim (trim a.name));
@@ -51,26 +49,26 @@ atom_new a =
       element = a.element;
       charge = a.charge;
     }))
-    none
+    None
 
 -- Conformer::new: prepare_identifier_uppercase(name).map(|n| { Conformer { name: n, alternative_location: None, .. };
 --   if let Some(al) = alt_loc { res.alternative_location = prepare_identifier_uppercase(al); } .. })
 unfoldable pub conformer_new : Text → Option Text → Option (Struct 1)
-conformer_new name location = Option.map (λ n. (record { name = n; location = and_then location prepare_identifier_uppercase }, [])) (prepare_identifier_uppercase name)
+conformer_new name location = option_map (λ n. (record { name = n; location = and_then location prepare_identifier_uppercase }, [])) (prepare_identifier_uppercase name)
 
 -- Residue::new: if let Some(ic) = insertion_code { if !res.set_insertion_code(ic) { return None; } }, which is
 --   prepare_identifier_uppercase(new_code).map(|c| self.insertion_code = Some(c)).is_some()
 unfoldable pub residue_new : ℕ → Option Text → Option (Struct 2)
-residue_new serial none = some (record { serial = serial; code = none }, [])
-residue_new serial (some ic) = Option.map (λ c. (record { serial = serial; code = some c }, [])) (prepare_identifier_uppercase ic)
+residue_new serial None = Some (record { serial = serial; code = None }, [])
+residue_new serial (Some ic) = option_map (λ c. (record { serial = serial; code = Some c }, [])) (prepare_identifier_uppercase ic)
 
 -- Chain::new: prepare_identifier(id).map(|id| Chain { id, residues: Vec::new(), .. })
 unfoldable pub chain_new : Text → Option (Struct 3)
-chain_new id = Option.map (λ i. (record { id = i }, [])) (prepare_identifier id)
+chain_new id = option_map (λ i. (record { id = i }, [])) (prepare_identifier id)
 
 -- Conformer::add_atom: self.atoms.push(new_atom)
 abbrev pub conformer_add_atom : Atom → Struct 1 → Answer (Struct 1)
-conformer_add_atom atom self = some (true, (self.0, self.1 ++ (atom ∷ [])))
+conformer_add_atom atom self = Some (true, (self.0, self.1 ++ (atom ∷ [])))
 
 -- Residue::add_atom: let name = prepare_identifier_uppercase(conformer_id.0).expect(..); let conformer_id = (name.as_str(), conformer_id.1);
 --   let mut new_conformer = Conformer::new(conformer_id.0, conformer_id.1, None).expect(..);
@@ -101,13 +99,13 @@ add_atom i a pdb = and_then (atom_new a) (λ atom. at i (model_add_atom atom a.c
 
 -- pdb.add_model(Model::new(serial)): self.models.push(new_model)
 unfoldable pub add_model : ℕ → PDB → Answer PDB
-add_model serial pdb = some (true, pdb ++ ((record { serial = serial }, []) ∷ []))
+add_model serial pdb = Some (true, pdb ++ ((record { serial = serial }, []) ∷ []))
 
 -- ---- positions
 
 -- a call on pdb.model_mut(at[0]).unwrap().chain_mut(at[1]).unwrap() .., d levels down
 unfoldable pub at_position : (d j : ℕ) → List ℕ → (Struct j → Answer (Struct j)) → List (Struct (up d j)) → Answer (List (Struct (up d j)))
-at_position d j [] f ts = none
+at_position d j [] f ts = None
 at_position zero j (i ∷ is) f ts = at i f ts
 at_position (suc d) j (i ∷ is) f ts = at i (λ t. children t.0 (at_position d j is f t.1)) ts
 
@@ -115,14 +113,14 @@ at_position (suc d) j (i ∷ is) f ts = at i (λ t. children t.0 (at_position d 
 
 -- remove_chain, remove_residue, remove_conformer, remove_atom (and remove_model, for a join): self.chains.remove(index), and so on, of the parent at a position
 unfoldable pub remove_at : (d j : ℕ) → List ℕ → List (Struct (up d j)) → Answer (List (Struct (up d j)))
-remove_at d j [] ts = none
-remove_at zero j (i ∷ is) ts = Option.map (λ us. (true, us)) (remove i ts)
+remove_at d j [] ts = None
+remove_at zero j (i ∷ is) ts = option_map (λ us. (true, us)) (remove i ts)
 remove_at (suc d) j (i ∷ is) ts = at i (λ t. children t.0 (remove_at d j is t.1)) ts
 
 -- if let Some(i) = index { self.remove_chain(i); true } else { false }, and so on
 unfoldable pub remove_index : (j : ℕ) → Option ℕ → Struct (suc j) → Answer (Struct (suc j))
-remove_index j none self = some (false, self)
-remove_index j (some i) self = children self.0 (Option.map (λ (us : List (Struct j)). (true, us)) (remove i self.1))
+remove_index j None self = Some (false, self)
+remove_index j (Some i) self = children self.0 (option_map (λ (us : List (Struct j)). (true, us)) (remove i self.1))
 
 -- remove_chain_by_id, and so on: let index = self.chains().position(|a| a.id() == id)
 unfoldable pub remove_by_id : (j : ℕ) → (Struct j → Bool) → Struct (suc j) → Answer (Struct (suc j))
@@ -144,11 +142,11 @@ remove_empty (suc k) self = (self.0, filter (λ (c : Struct (suc (suc k))). nat_
 
 -- self.chains.extend(other.chains), and so on
 abbrev pub join : (j : ℕ) → Struct (suc j) → Struct (suc j) → Answer (Struct (suc j))
-join j other self = some (true, (self.0, self.1 ++ other.1))
+join j other self = Some (true, (self.0, self.1 ++ other.1))
 
 -- what stands at a position
 unfoldable pub struct_at : (d j : ℕ) → List ℕ → List (Struct (up d j)) → Option (Struct j)
-struct_at d j [] ts = none
+struct_at d j [] ts = None
 struct_at zero j (i ∷ is) ts = nth i ts
 struct_at (suc d) j (i ∷ is) ts = and_then (nth i ts) (λ t. struct_at d j is t.1)
 
@@ -172,6 +170,6 @@ set_element element self =
       z = self.z;
       occupancy = self.occupancy;
       b_factor = self.b_factor;
-      element = some element;
+      element = Some element;
       charge = self.charge;
     }

@@ -1,9 +1,7 @@
 -- pdbtbx 0.12.0: `PDB::find`, `Model::find`, `Chain::find`, `Residue::find` and `Conformer::find`, one function by level, and all five at a position.
 -- Assumes nothing.
 -- Levels count from the atom, 0; `find k` goes over a list of things of level k, so it is the `find` of what stands one level above.
-use Rattle.std.specs.Prelude.{ℕ, zero, suc, Bool, true, false, not, List, [], ◌∷◌, map}
-use Rattle.std.proofs.Math.Option
-use Rattle.std.proofs.Math.Option.{Option, none, some}
+use Rattle.std.specs.Prelude.{ℕ, zero, suc, Bool, true, false, not, List, [], ◌∷◌, map, None, Option, Some, option_map}
 use Rattle.machine.specs.Lists.{filter, nth, concat_map, concat_map_from, sum, and_then}
 use Rattle.machine.specs.declared.Term.{Term}
 use Rattle.pdbtbx.specs.Std.{unwrap_or}
@@ -32,9 +30,9 @@ module _ (F : ℕ → Type 0) {T : Type 0} (matches : (k : ℕ) → F k → T �
   -- residue.conformers().nth(..), and none is a None of these. A hit of that `find` refers only to what stands below; the caller, who went down there, knows the
   -- start and what is above it, and their numbers are put before the hit's
   unfoldable pub find_under : (k : ℕ) → List ℕ → Search T → List (Item F k) → Option (List (List ℕ))
-  find_under k [] s items = some (find k s items)
-  find_under zero (i ∷ is) s items = none
-  find_under (suc k) (i ∷ is) s items = and_then (nth i items) (λ (m : Item F (suc k)). Option.map (map (λ (h : List ℕ). m.0 ∷ h)) (find_under k is s m.2))
+  find_under k [] s items = Some (find k s items)
+  find_under zero (i ∷ is) s items = None
+  find_under (suc k) (i ∷ is) s items = and_then (nth i items) (λ (m : Item F (suc k)). option_map (map (λ (h : List ℕ). m.0 ∷ h)) (find_under k is s m.2))
 
 -- ---- on the crate's structure: a hit's references are told by the numbers of what they point to, in hierarchy order from 0
 

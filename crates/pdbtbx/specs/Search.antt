@@ -1,8 +1,7 @@
 -- pdbtbx 0.12.0, src/structs/search.rs: `Search`, `simplify`, `complete`, and the five `add_.._info`, over any terms. Assumes nothing.
 -- Rust's `match` takes the first arm that fits; arms that overlap are a `cond` in the same order.
-use Rattle.std.specs.Prelude.{Bool, true, false, cond, not, ◌&&◌, ◌||◌}
+use Rattle.std.specs.Prelude.{Bool, true, false, cond, not, ◌&&◌, ◌||◌, None, Option, Some}
 use Rattle.std.specs.Bool.{xor, beq}
-use Rattle.std.proofs.Math.Option.{Option, none, some}
 use Rattle.machine.specs.declared.Ops.{Ops}
 use Rattle.machine.specs.declared.Ops.TheVariants.{And, Or, Xor}
 
@@ -15,21 +14,21 @@ pub data Search (T : Type 0) : Type 0 where
 
 -- a pattern `Known(b)` for a given b, and one for two known sides
 abbrev pub is_known : Bool → Option Bool → Bool
-is_known b none = false
-is_known b (some c) = beq b c
+is_known b None = false
+is_known b (Some c) = beq b c
 
 abbrev pub both_known : {T : Type 0} → (Bool → Bool → Bool) → Option Bool → Option Bool → Search T → Search T
-both_known f none b rest = rest
-both_known f (some a) none rest = rest
-both_known f (some a) (some b) rest = Known (f a b)
+both_known f None b rest = rest
+both_known f (Some a) None rest = rest
+both_known f (Some a) (Some b) rest = Known (f a b)
 
 module _ {T : Type 0} where
   -- match self { Known(a) => Some(*a), _ => None }
   unfoldable pub complete : Search T → Option Bool
-  complete (Operator o a b) = none
-  complete (Not a) = none
-  complete (Single t) = none
-  complete (Known b) = some b
+  complete (Operator o a b) = None
+  complete (Not a) = None
+  complete (Single t) = None
+  complete (Known b) = Some b
 
   -- match (ops, a.simplify(), b.simplify()) {
   --   (And, Known(false), _) | (And, _, Known(false)) => Known(false), (And, Known(a), Known(b)) => Known(a & b),
@@ -42,8 +41,8 @@ module _ {T : Type 0} where
 
   -- match a.simplify() { Known(a) => Known(!a), a => Not(Box::new(a)) }
   abbrev pub negated : Option Bool → Search T → Search T
-  negated none rest = rest
-  negated (some a) rest = Known (not a)
+  negated None rest = rest
+  negated (Some a) rest = Known (not a)
 
   -- match self { Ops(ops, a, b) => .., Not(a) => .., _ => self }
   unfoldable pub simplify : Search T → Search T
@@ -54,9 +53,9 @@ module _ {T : Type 0} where
 
   -- match a.optional_matches_..(..) { Some(true) => Known(true), Some(false) => Known(false), None => self.clone() }
   abbrev pub answered : T → Option Bool → Search T
-  answered t (some true) = Known true
-  answered t (some false) = Known false
-  answered t none = Single t
+  answered t (Some true) = Known true
+  answered t (Some false) = Known false
+  answered t None = Single t
 
   -- the five add_.._info, which differ in the optional_matches_.. alone: match self {
   --   Ops(ops, a, b) => Ops(*ops, a.add_.._info(..), b.add_.._info(..)), Not(a) => Not(a.add_.._info(..)), Single(a) => .., Known(_) => self.clone() }.simplify()

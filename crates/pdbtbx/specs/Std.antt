@@ -2,9 +2,7 @@
 -- Five more are taken as they stand in `machine`: `trim` is `str::trim`, `before` is `<=` of `str` (both Text), `finite` is `f64::is_finite` of a float's
 -- bits (Record), `same_z` is `==` of `isize` (Query), and `filter` is `filter` of an iterator and `retain` of a Vec (Lists).
 -- Assumes nothing else.
-use Rattle.std.specs.Prelude.{ℕ, zero, suc, ◌-◌, Bool, true, false, List, [], ◌∷◌, ◌++◌, map, reverse, length, negsuc, Float}
-use Rattle.std.proofs.Math.Option
-use Rattle.std.proofs.Math.Option.{Option, none, some}
+use Rattle.std.specs.Prelude.{ℕ, zero, suc, ◌-◌, Bool, true, false, List, [], ◌∷◌, ◌++◌, map, reverse, length, negsuc, Float, None, Option, Some, option_map}
 use Rattle.std.specs.Float.{nan, inf, fin, binary64}
 use Rattle.std.specs.Float.Ieee.{sub, lt}
 use Rattle.machine.specs.Lists.{first_where, same}
@@ -21,20 +19,20 @@ to_uppercase t = map to_upper t
 
 -- == of Option<&str>
 abbrev pub same_option : Option Text → Option Text → Bool
-same_option none none = true
-same_option none (some t) = false
-same_option (some s) none = false
-same_option (some s) (some t) = same s t
+same_option None None = true
+same_option None (Some t) = false
+same_option (Some s) None = false
+same_option (Some s) (Some t) = same s t
 
 -- o.is_none()
 abbrev pub is_none : {A : Type 0} → Option A → Bool
-is_none none = true
-is_none (some x) = false
+is_none None = true
+is_none (Some x) = false
 
 -- o.unwrap_or(b)
 abbrev pub unwrap_or : Bool → Option Bool → Bool
-unwrap_or b none = b
-unwrap_or b (some c) = c
+unwrap_or b None = b
+unwrap_or b (Some c) = c
 
 -- ---- f64
 
@@ -59,21 +57,21 @@ abbrev pub Answer : Type 0 → Type 0
 Answer A = Option (Bool × A)
 
 abbrev pub changed : {A B : Type 0} → (A → B) → Answer A → Answer B
-changed f none = none
-changed f (some r) = some (r.0, f r.1)
+changed f None = None
+changed f (Some r) = Some (r.0, f r.1)
 
 module _ {A : Type 0} where
   -- f(xs.get_mut(i).unwrap())
   unfoldable pub at : ℕ → (A → Answer A) → List A → Answer (List A)
-  at i f [] = none
+  at i f [] = None
   at zero f (x ∷ xs) = changed (λ y. y ∷ xs) (f x)
   at (suc i) f (x ∷ xs) = changed (λ ys. x ∷ ys) (at i f xs)
 
   -- xs.remove(i)
   unfoldable pub remove : ℕ → List A → Option (List A)
-  remove i [] = none
-  remove zero (x ∷ xs) = some xs
-  remove (suc i) (x ∷ xs) = Option.map (λ ys. x ∷ ys) (remove i xs)
+  remove i [] = None
+  remove zero (x ∷ xs) = Some xs
+  remove (suc i) (x ∷ xs) = option_map (λ ys. x ∷ ys) (remove i xs)
 
   -- xs.iter().position(p), and the index at which `for x in &mut xs { if p(x) { .. break; } }` breaks
   abbrev pub position : (A → Bool) → List A → Option ℕ
@@ -81,9 +79,9 @@ module _ {A : Type 0} where
 
   -- the index at which the same loop over xs.iter_mut().rev() breaks
   abbrev pub position_from_back : (A → Bool) → List A → Option ℕ
-  position_from_back p xs = Option.map (λ i. length xs - 1 - i) (first_where p (reverse xs))
+  position_from_back p xs = option_map (λ i. length xs - 1 - i) (first_where p (reverse xs))
 
   -- the loop's end, `if !found { xs.push(new); current = xs.last_mut().unwrap(); }`, then f(current)
   unfoldable pub on_current : Option ℕ → A → (A → Answer A) → List A → Answer (List A)
-  on_current none new f xs = changed (λ y. xs ++ (y ∷ [])) (f new)
-  on_current (some i) new f xs = at i f xs
+  on_current None new f xs = changed (λ y. xs ++ (y ∷ [])) (f new)
+  on_current (Some i) new f xs = at i f xs

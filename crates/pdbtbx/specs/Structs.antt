@@ -1,7 +1,6 @@
 -- pdbtbx 0.12.0, src/structs: the five structs and helper.rs. Left out, as in document 01: `counter`, `atf`, `modification`,
 -- `database_reference`. An `isize` and an `f64` are held as their bits. Assumes nothing.
-use Rattle.std.specs.Prelude.{ℕ, zero, suc, Bool, cond, not, ◌&&◌, List, nat_lt}
-use Rattle.std.proofs.Math.Option.{Option, none, some, map}
+use Rattle.std.specs.Prelude.{ℕ, zero, suc, Bool, cond, not, ◌&&◌, List, nat_lt, None, Option, Some, option_map}
 use Rattle.machine.specs.Lists.{is_empty, all}
 use Rattle.machine.specs.Text.{trim}
 use Rattle.pdbtbx.specs.Std.{Text, to_uppercase}
@@ -65,8 +64,8 @@ valid_identifier t = all check_char t
 
 -- (valid_identifier(text) && !text.trim().is_empty()).then(|| text.trim().to_string())
 unfoldable pub prepare_identifier : Text → Option Text
-prepare_identifier t = cond (valid_identifier t && not (is_empty (trim t))) (some (trim t)) none
+prepare_identifier t = cond (valid_identifier t && not (is_empty (trim t))) (Some (trim t)) None
 
 -- prepare_identifier(text).map(|s| s.to_uppercase())
 unfoldable pub prepare_identifier_uppercase : Text → Option Text
-prepare_identifier_uppercase t = map to_uppercase (prepare_identifier t)
+prepare_identifier_uppercase t = option_map to_uppercase (prepare_identifier t)

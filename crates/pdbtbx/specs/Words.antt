@@ -1,6 +1,5 @@
 -- Document 01's words and the crate's values that they stand for: texts, numbers, and a whole structure, both ways. Assumes nothing.
-use Rattle.std.specs.Prelude.{ℕ, zero, suc, cond, List, map, ℤ, ◌==◌, from_bits, Float}
-use Rattle.std.proofs.Math.Option.{Option, none, some}
+use Rattle.std.specs.Prelude.{ℕ, zero, suc, cond, List, map, ℤ, ◌==◌, from_bits, Float, None, Option, Some}
 use Rattle.std.specs.Float.{binary64}
 use Rattle.std.specs.Int.{w64}
 use Rattle.std.proofs.Common.{to_z}
@@ -16,11 +15,11 @@ abbrev pub string : ℕ → Text
 string w = text_of w
 
 abbrev pub option_string : ℕ → Option Text
-option_string w = cond (w == 0) none (some (text_of w))
+option_string w = cond (w == 0) None (Some (text_of w))
 
 -- "element 1..118 or 0 missing"
 abbrev pub option_element : ℕ → Option ℕ
-option_element w = cond (w == 0) none (some w)
+option_element w = cond (w == 0) None (Some w)
 
 abbrev pub isize : ℕ → ℤ
 isize w = to_z w64 w
@@ -63,12 +62,12 @@ pdb_of m = structs_of 4 m
 -- ---- and the machine that a structure packs to
 
 abbrev pub pack_option : Option Text → ℕ
-pack_option none = 0
-pack_option (some t) = pack t
+pack_option None = 0
+pack_option (Some t) = pack t
 
 abbrev pub element_word : Option ℕ → ℕ
-element_word none = 0
-element_word (some e) = e
+element_word None = 0
+element_word (Some e) = e
 
 unfoldable pub fields_from : (k : ℕ) → Says k → Fields k
 fields_from zero a =

@@ -1,11 +1,12 @@
 -- A list cut into parts of one length, as bytes are into words and an output's words into hits. Assumes nothing.
-use Prim.Native.Nat.{ℕ, zero, suc, ◌+◌, ◌*◌}
+use Prim.Native.Nat.{ℕ, zero, suc, ◌+◌, ◌*◌, ◌<◌}
 use mathlib.Core.Path.{◌≡◌, refl, ap, ◌∙◌}
 use mathlib.Core.List.{List, [], ◌∷◌, ◌++◌, append-nil}
 use native.Mathlib.Nat.{zero-mul}
 use native.Mathlib.Omega.{arith}
-use lib.ListN.{length, take, drop}
+use lib.ListN.{length, get_or, take, drop}
 use lib.Seq.{drop-drop}
+use Rattle.std.specs.Simd.{first_chunks}
 use Rattle.machine.specs.Lists.{concat_map}
 use Rattle.machine.specs.Program.{little_endian, words_in}
 use Rattle.machine.specs.Demand.{fives}
@@ -23,6 +24,19 @@ module _ {B : Type 0} (k : ℕ) (f : List ℕ → B) (g : ℕ → List ℕ → L
   parts-length : (n : ℕ) (xs : List ℕ) → length (g n xs) ≡ n
   parts-length zero xs = rw (none xs)
   parts-length (suc n) xs = rw (more n xs) (ap suc (parts-length n (drop k xs)))
+
+-- part i of the first n, as `as_chunks` gives them
+pub chunk_at : {A : Type 0} (k m n i : ℕ) (xs : List A) (d : List A) → i < length (take n (first_chunks k m xs)) → get_or (take n (first_chunks k m xs)) i d ≡ take k (drop (i * k) xs)
+chunk_at k m zero i xs d h = absurd (omega arith)
+chunk_at k zero (suc n) i xs d h = absurd (omega arith)
+chunk_at k (suc m) (suc n) zero xs d h = rw zero-mul
+chunk_at k (suc m) (suc n) (suc i) xs d h =
+    let e : k + i * k ≡ suc i * k = omega arith in
+    chunk_at k m n i (drop k xs) d (omega arith) ∙ rw (drop-drop (i * k) k xs, e)
+
+pub chunks-length : {A : Type 0} (k m : ℕ) (xs : List A) → length (first_chunks k m xs) ≡ m
+chunks-length k zero xs = refl
+chunks-length k (suc m) xs = ap suc (chunks-length k m (drop k xs))
 
 pub words_snoc : (n : ℕ) (bs : List ℕ) → words_in (suc n) bs ≡ words_in n bs ++ (little_endian (take 8 (drop (n * 8) bs)) ∷ [])
 words_snoc = parts-snoc 8 little_endian words_in (λ xs. refl) (λ n xs. refl)

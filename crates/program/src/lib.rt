@@ -1,46 +1,28 @@
 // What the program `find` does between its input and its text (document 01, "Serial lookup and program").
 #![tactic(auto)]
 
-ghost use Rattle.std.specs.Prelude.{◌≡◌, ◌&&◌, ◌++◌, ◌+◌, ◌*◌, ◌%◌, ◌≤◌, ◌<◌, length, leb, eqb};
-ghost use Rattle.machine.specs.Answer.{refused};
+ghost use Rattle.std.specs.Prelude.{◌≡◌, ◌&&◌, ◌++◌, ◌+◌, ◌*◌, ◌%◌, ◌≤◌, ◌<◌, length, leb, eqb, Err};
 ghost use Rattle.machine.specs.Find.{hits_of};
-ghost use Rattle.machine.specs.Program.{little_endian, words_in, split, printed, program_run};
+ghost use Rattle.machine.specs.Program.{words_in, split, printed, program_run};
 ghost use Rattle.moves.specs.Over.{over};
 ghost use Rattle.decimals.specs.Put.{put_at};
 ghost use Rattle.program.specs.Text.{Counts, line, lines, last_line, answer_text};
 
-use machine::{Found, Refusal};
+use machine::Refusal;
 
 // The longest text: 682 hits, each of five numbers that have at most 20 digits, and the line of their count.
 pub const TEXT: usize = 71637;
 
 // ---- what is read
 
-fn wide(x: u8) -> u64
-    ensures { (result ≡ x) × (result < 256) }
-{
-    x as u64
-}
-
-// "little-endian words": the first byte is the lowest.
-fn little_endian(b: &[u8]) -> u64
-    requires { length b.now ≡ 8 }
-    ensures { result ≡ little_endian b.now }
-{
-    let high = wide(b[4]) + 256 * (wide(b[5]) + 256 * (wide(b[6]) + 256 * wide(b[7])));
-    wide(b[0]) + 256 * (wide(b[1]) + 256 * (wide(b[2]) + 256 * (wide(b[3]) + 256 * high)))
-}
-
-// The first n words of the input.
+// The first n words of the input: "little-endian words".
 pub fn read_words(input: &[u8], n: usize, words: &mut [u64])
     requires { (n * 8 ≤ length input.now) × (n ≤ length words.old) }
     ensures { words.new ≡ over 0 (words_in n input.now) words.old }
 {
-    let mut i: usize = 0;
-    while i < n {
-        let at = i * 8;
-        words[i] = little_endian(&input[at..at + 8]);
-        i += 1;
+    let (chunks, _) = input.as_chunks::<8>();
+    for (i, bytes) in chunks[..n].iter().enumerate() {
+        words[i] = u64::from_le_bytes(*bytes);
     }
 }
 
@@ -48,14 +30,14 @@ pub fn read_words(input: &[u8], n: usize, words: &mut [u64])
 fn readable(bytes: usize) -> bool
     ensures { result ≡ (eqb (bytes % 8) 0 && leb 1 bytes && leb bytes 65536) }
 {
-    (bytes % 8 == 0) & (1 <= bytes) & (bytes <= 65536)
+    bytes % 8 == 0 && (1..=65536).contains(&bytes)
 }
 
 // ---- what is written
 
 // "each hit as five decimals"
-fn put_hit(text: &mut [u8], at: usize, hit: &[u64]) -> usize
-    requires { (length hit.now ≡ 5) × (at + 105 ≤ length text.old) }
+fn put_hit(text: &mut [u8], at: usize, hit: &[u64; 5]) -> usize
+    requires { at + 105 ≤ length text.old }
     ensures { (result, text.new) ≡ put_at (line hit.now) at text.old }
 {
     let chain = decimals::put_number(text, at, hit[0], b' ');
@@ -70,12 +52,10 @@ fn put_hits(text: &mut [u8], hits: &[u64], n: usize) -> usize
     requires { (n * 5 ≤ length hits.now) × (n * 105 ≤ length text.old) }
     ensures { (result, text.new) ≡ put_at (lines n hits.now) 0 text.old }
 {
+    let (hits, _) = hits.as_chunks::<5>();
     let mut at: usize = 0;
-    let mut i: usize = 0;
-    while i < n {
-        let word = i * 5;
-        at = put_hit(text, at, &hits[word..word + 5]);
-        i += 1;
+    for hit in &hits[..n] {
+        at = put_hit(text, at, hit);
     }
     at
 }
@@ -93,10 +73,10 @@ fn put_found(text: &mut [u8], hits: &[u64], n: usize) -> usize
 // "A refusal prints `refused` and its number."
 fn put_refused(text: &mut [u8], r: Refusal) -> usize
     requires { 29 ≤ length text.old }
-    ensures { (result, text.new) ≡ put_at (printed (refused r)) 0 text.old }
+    ensures { (result, text.new) ≡ put_at (printed (Err r)) 0 text.old }
 {
     let at = decimals::put_bytes(text, 0, b"refused ");
-    decimals::put_number(text, at, answers::refusal_number(r), b'\n')
+    decimals::put_number(text, at, r.into(), b'\n')
 }
 
 // ---- the whole
@@ -109,8 +89,8 @@ fn put_answer(store: &[u64], tree: &[u64], text: &mut [u8]) -> usize
     let mut hits = [0u64; 3410];
     let found = walk::find(store, &[], tree, &mut hits);
     match found {
-        Found::Hits(n) => put_found(text, &hits, n as usize),
-        Found::Refused(r) => put_refused(text, r),
+        Ok(n) => put_found(text, &hits, n as usize),
+        Err(r) => put_refused(text, r),
     }
 }
 

@@ -1,9 +1,9 @@
 -- Laws of the reader, one for each place of the code. Assumes nothing.
+use Rattle.std.specs.Prelude.{None, Ok, Option, Some, Err}
 use Prim.Native.Nat.{ℕ, ◌+◌, ◌-◌, ◌*◌, ◌/◌, ◌%◌, ◌≤◌, ◌<◌}
 use mathlib.Core.Path.{◌≡◌, refl, sym, ap, ◌∙◌, subst}
 use mathlib.Core.Bool.{Bool, true, false, not, ◌&&◌, false≢true}
 use mathlib.Core.List.{List, [], ◌∷◌}
-use mathlib.Core.Option.{Option, none, some}
 use lib.Dec.{leb}
 use lib.ListN.{length, get_or, take, drop, length-drop}
 use lib.Seq.{length-take-le}
@@ -11,14 +11,13 @@ use native.Mathlib.Nat.{lt_irrefl}
 use borrow.Author.Tests.{leb-true, le-leb, lt-leb, eq-eqb, ne_eqb}
 use native.Mathlib.Omega.{arith}
 use Rattle.machine.specs.Lists.{is_some}
-use Rattle.machine.specs.Answer.{Result, ok, ◌>>=◌, ◌>>◌, need, if_refused, opened_numbers}
+use Rattle.machine.specs.Answer.{Result, ◌>>=◌, ◌>>◌, need, if_refused, opened_numbers}
 use Rattle.machine.specs.Store.{Machine, records, capacity, lay_out, good_length}
 use Rattle.machine.specs.Lines.{Entry}
 use Rattle.machine.specs.LinesIn.{lines_in, entries_in, read_text}
 use Rattle.machine.specs.Read.{calls_from, run_calls, or_bad_text, text_machine, read_run}
 use Rattle.machine.specs.declared.Refusal.{Refusal}
 use Rattle.machine.specs.declared.Refusal.TheVariants.{BadLength, NoCapacity, BadText}
-use Rattle.machine.specs.declared.Opened as Opened
 use Rattle.laws.specs.Lists.{and-true}
 use Rattle.lines.specs.Taken.{taken_atom, taken_model, taken_end, opens, taken_line, taken_from, taken_text}
 use Rattle.lines.proofs.Scan.{taken-text, taken-entries, taken-good, taken-closed}
@@ -124,10 +123,10 @@ all-taken t count n begun h k = sym (h.is ∙ ap (taken_from begun) (lines_none 
 
 module _ (t w : List ℕ) where
   abbrev refuses : Refusal → List ℕ × List ℕ
-  refuses r = (opened_numbers (Opened.TheVariants.Refused r), w)
+  refuses r = (opened_numbers (Err r), w)
 
   abbrev answered : Result Machine → List ℕ × List ℕ
-  answered m = if_refused refuses (m >>= λ x. ok (opened_numbers Opened.TheVariants.Done, lay_out (length w) x))
+  answered m = if_refused refuses (m >>= λ x. Ok (opened_numbers (Ok tt), lay_out (length w) x))
 
   run_is : read_run t w ≡ answered (text_machine (length w) t)
   unfolding read_run
@@ -152,34 +151,34 @@ module _ (t w : List ℕ) where
     by-text o f = run_is ∙ (λ i. answered (need (length-good i) BadLength >> (or_bad_text (f i) >>= λ es. run_calls (length w) [] (calls_from 0 es))))
 
     pub bad-text : r ≡ false → refuses BadText ≡ read_run t w
-    bad-text h = sym (by-text none (is_none (read_text t) (taken-text t ∙ sym e ∙ h)))
+    bad-text h = sym (by-text None (is_none (read_text t) (taken-text t ∙ sym e ∙ h)))
       where
-        is_none : (o : Option (List Entry)) → is_some o ≡ false → o ≡ none
-        is_none none h = refl
-        is_none (some es) h = absurd (false≢true (sym h))
+        is_none : (o : Option (List Entry)) → is_some o ≡ false → o ≡ None
+        is_none None h = refl
+        is_none (Some es) h = absurd (false≢true (sym h))
 
     module _ (h : r ≡ true) where
       pub was-taken : taken_text t ≡ true
       was-taken = sym e ∙ h
 
       by_size : (f : Bool) → f ≡ leb (records_from false [] (lines_in (length t / 81) t)) (capacity (length w))
-          → read_run t w ≡ answered (need f NoCapacity >> ok (build (entries_in t)))
+          → read_run t w ≡ answered (need f NoCapacity >> Ok (build (entries_in t)))
       by_size f g =
-          by-text (some (entries_in t)) (taken-entries t was-taken)
+          by-text (Some (entries_in t)) (taken-entries t was-taken)
           ∙ ap answered (text-run (length w) (entries_in t) (taken-good t was-taken))
-          ∙ ap (λ (b : Bool). answered (need b NoCapacity >> ok (build (entries_in t))))
+          ∙ ap (λ (b : Bool). answered (need b NoCapacity >> Ok (build (entries_in t))))
           (ap (λ (n : ℕ). leb n (capacity (length w))) (sym (text-size (lines_in (length t / 81) t) (taken-closed t was-taken))) ∙ sym g)
 
       module _ (f : Bool) (g : f ≡ leb (records_from false [] (lines_in (length t / 81) t)) ((length w - 1) / 12)) where
         pub no_room : f ≡ false → refuses NoCapacity ≡ read_run t w
-        no_room k = sym (by_size f g ∙ ap (λ (b : Bool). answered (need b NoCapacity >> ok (build (entries_in t)))) k)
+        no_room k = sym (by_size f g ∙ ap (λ (b : Bool). answered (need b NoCapacity >> Ok (build (entries_in t)))) k)
 
         pub has_room : f ≡ true → length (records (build (entries_in t))) ≤ capacity (length w)
         has_room k =
             subst (λ (n : ℕ). n ≤ capacity (length w)) (text-size (lines_in (length t / 81) t) (taken-closed t was-taken))
             (leb-true (records_from false [] (lines_in (length t / 81) t)) (capacity (length w)) (sym g ∙ k))
 
-        pub read_done : (after : List ℕ) → f ≡ true → after ≡ lay_out (length w) (build (entries_in t)) → (opened_numbers Opened.TheVariants.Done, after) ≡ read_run t w
+        pub read_done : (after : List ℕ) → f ≡ true → after ≡ lay_out (length w) (build (entries_in t)) → (opened_numbers (Ok tt), after) ≡ read_run t w
         read_done after k a =
-            ap (λ (v : List ℕ). (opened_numbers Opened.TheVariants.Done, v)) a
-            ∙ sym (by_size f g ∙ ap (λ (b : Bool). answered (need b NoCapacity >> ok (build (entries_in t)))) k)
+            ap (λ (v : List ℕ). (opened_numbers (Ok tt), v)) a
+            ∙ sym (by_size f g ∙ ap (λ (b : Bool). answered (need b NoCapacity >> Ok (build (entries_in t)))) k)

@@ -7,7 +7,7 @@ ghost use Rattle.machine.specs.Answer.{opened_numbers};
 ghost use Rattle.machine.specs.Read.{read_run};
 ghost use Rattle.lines.specs.Taken.{opens, taken_line, taken_text};
 
-use machine::{Opened, Record, Refusal};
+use machine::{Record, Refusal};
 
 // ---- which texts are the writer's
 
@@ -71,22 +71,22 @@ pub fn taken_text(text: &[u8]) -> bool
 // ---- the call
 
 // Refused in order: 1 by the store's length, 17 by the text, 8 by the records that it needs. Old words of the store aren't read.
-pub fn read(text: &[u8], store: &mut [u64]) -> Opened
+pub fn read(text: &[u8], store: &mut [u64]) -> Result<(), Refusal>
     ensures { (opened_numbers result, store.new) ≡ read_run text.now store.old }
 {
     let length = store.len();
     if length < 1 {
-        return Opened::Refused(Refusal::BadLength);
+        return Err(Refusal::BadLength);
     }
     if 1200001 < length {
-        return Opened::Refused(Refusal::BadLength);
+        return Err(Refusal::BadLength);
     }
     if taken_text(text) {
         if room::fits(text, (length - 1) / Record::WIDTH) {
             filling::fill(text, store);
-            return Opened::Done;
+            return Ok(());
         }
-        return Opened::Refused(Refusal::NoCapacity);
+        return Err(Refusal::NoCapacity);
     }
-    Opened::Refused(Refusal::BadText)
+    Err(Refusal::BadText)
 }

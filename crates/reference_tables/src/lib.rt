@@ -2,10 +2,10 @@
 // down, then zero bytes".
 #![tactic(auto)]
 
-ghost use Rattle.std.specs.Prelude.{◌≡◌, length};
+ghost use Rattle.std.specs.Prelude.{◌≡◌};
 ghost use Rattle.machine.specs.Query.{member, tables};
 
-const AMINO_ACIDS: [u64; 31] = [
+static AMINO_ACIDS: [u64; 31] = [
     0x414c_4100_0000_0000, // ALA
     0x4152_4700_0000_0000, // ARG
     0x4153_4800_0000_0000, // ASH
@@ -39,7 +39,7 @@ const AMINO_ACIDS: [u64; 31] = [
     0x5059_4c00_0000_0000, // PYL
 ];
 
-const BACKBONE_NAMES: [u64; 11] = [
+static BACKBONE_NAMES: [u64; 11] = [
     0x4e00_0000_0000_0000, // N
     0x4341_0000_0000_0000, // CA
     0x4300_0000_0000_0000, // C
@@ -53,52 +53,28 @@ const BACKBONE_NAMES: [u64; 11] = [
     0x4841_3300_0000_0000, // HA3
 ];
 
-// The tables are handed out once for each search, and then lent: a constant array that is indexed is built anew at each use.
-pub fn amino_acids() -> [u64; 31]
-    ensures { result ≡ tables.residues }
+pub fn amino_acids() -> &'static [u64]
+    ensures { result.now ≡ tables.residues }
 {
-    AMINO_ACIDS
+    &AMINO_ACIDS
 }
 
-pub fn backbone_names() -> [u64; 11]
-    ensures { result ≡ tables.atoms }
+pub fn backbone_names() -> &'static [u64]
+    ensures { result.now ≡ tables.atoms }
 {
-    BACKBONE_NAMES
+    &BACKBONE_NAMES
 }
 
-// Without branches between them.
-fn among_four(names: &[u64], name: u64) -> bool
-    requires { length names.now ≡ 4 }
-    ensures { result ≡ member names.now name }
-{
-    (name == names[0]) | (name == names[1]) | (name == names[2]) | (name == names[3])
-}
-
-// One after another.
-fn among(names: &[u64], name: u64) -> bool
-    ensures { result ≡ member names.now name }
-{
-    let mut i: usize = 0;
-    while i < names.len() {
-        if name == names[i] {
-            return true;
-        }
-        i += 1;
-    }
-    false
-}
-
-// Whether a name stands in a list.
+// Whether a name stands in a list. No branch stands between the tests of four names: so it takes less time than the list's own `contains`.
 pub fn contains(names: &[u64], name: u64) -> bool
     ensures { result ≡ member names.now name }
 {
-    let n = names.len();
-    let mut i: usize = 0;
-    while 4 <= n - i {
-        if among_four(&names[i..i + 4], name) {
+    let mut rest = names;
+    while let [a, b, c, d, tail @ ..] = rest {
+        if (name == *a) | (name == *b) | (name == *c) | (name == *d) {
             return true;
         }
-        i += 4;
+        rest = tail;
     }
-    among(&names[i..], name)
+    rest.contains(&name)
 }

@@ -1,14 +1,12 @@
 // What the program `find` answers to inputs made here: each refusal that a file can meet, and two of document 01's cases.
 #![tactic(auto)]
 
-ghost use Rattle.std.specs.Prelude.{◌≡◌, ◌<◌, length};
+ghost use Rattle.std.specs.Prelude.{◌<◌};
 
 use std::io;
 
 // Document 01's store S, the tree "Not Element 7", and the word index where the tree starts.
-fn case_2() -> [u64; 80]
-    ensures { 80 ≡ length result }
-{
+fn case_2() -> [u64; 80] {
     let mut words = [0u64; 80];
     words[0] = 1; // model 1
     words[1] = 1;
@@ -31,63 +29,53 @@ fn case_2() -> [u64; 80]
     words
 }
 
-// The byte of a word that stands at k, the lowest first.
-fn byte_of(word: u64, k: usize) -> u8
-    requires { k < 8 }
-{
-    ((word >> (k * 8)) % 256) as u8
-}
-
-// Case 2 with another word in one place, as bytes.
-fn changed(at: usize, word: u64) -> [u8; 640]
+// Case 2 with another word in one place, as the bytes of each word.
+fn changed(at: usize, word: u64) -> [[u8; 8]; 80]
     requires { at < 80 }
-    ensures { 640 ≡ length result }
 {
     let mut words = case_2();
     words[at] = word;
-    let mut input = [0u8; 640];
-    let mut i: usize = 0;
-    while i < 640 {
-        input[i] = byte_of(words[i / 8], i % 8);
-        i += 1;
-    }
-    input
+    words.map(u64::to_le_bytes)
 }
 
 // A label, and what the program writes for an input.
-fn print(rt: &impl Print, label: &[u8], input: &[u8]) -> io::Result<()> {
+fn print(rt: &impl Print, label: &str, input: &[u8]) -> io::Result<()> {
     let mut text = [0u8; program::TEXT];
     let end = program::answer(input, &mut text);
-    rt.write_all(label)?;
+    rt.print(label)?;
     rt.write_all(&text[..end])
+}
+
+fn print_words(rt: &impl Print, label: &str, words: &[[u8; 8]]) -> io::Result<()> {
+    print(rt, label, words.as_flattened())
 }
 
 // Inputs that are zeros: their length alone tells.
 fn print_zeros(rt: &impl Print) -> io::Result<()> {
     let zeros = [0u8; 65544];
-    print(rt, b"no bytes: ", &zeros[..0])?;
-    print(rt, b"nine bytes: ", &zeros[..9])?;
-    print(rt, b"65,536 zeros: ", &zeros[..65536])?;
-    print(rt, b"65,544 zeros: ", &zeros)
+    print(rt, "no bytes: ", &zeros[..0])?;
+    print(rt, "nine bytes: ", &zeros[..9])?;
+    print(rt, "65,536 zeros: ", &zeros[..65536])?;
+    print(rt, "65,544 zeros: ", &zeros)
 }
 
 // The last word, at index 79, says where the tree starts.
 fn print_starts(rt: &impl Print) -> io::Result<()> {
-    print(rt, b"start above its own index: ", &changed(79, 80))?;
+    print_words(rt, "start above its own index: ", &changed(79, 80))?;
     // the store and a start right after it, which is its own index
-    print(rt, b"start at its own index: ", &changed(73, 73)[0..592])?;
-    print(rt, b"start 0: ", &changed(79, 0))
+    print_words(rt, "start at its own index: ", &changed(73, 73)[0..74])?;
+    print_words(rt, "start 0: ", &changed(79, 0))
 }
 
 fn print_contents(rt: &impl Print) -> io::Result<()> {
-    print(rt, b"a residue under a model: ", &changed(12, 3))?;
-    print(rt, b"node code 29: ", &changed(76, 29))?;
-    print(rt, b"And with one operand: ", &changed(76, 23))
+    print_words(rt, "a residue under a model: ", &changed(12, 3))?;
+    print_words(rt, "node code 29: ", &changed(76, 29))?;
+    print_words(rt, "And with one operand: ", &changed(76, 23))
 }
 
 fn print_cases(rt: &impl Print) -> io::Result<()> {
-    print(rt, b"case 1:\n", &changed(76, 73)[0..616])?;
-    print(rt, b"case 2:\n", &changed(79, 73))
+    print_words(rt, "case 1:\n", &changed(76, 73)[0..77])?;
+    print_words(rt, "case 2:\n", &changed(79, 73))
 }
 
 fn main(rt: HostRuntime) -> io::Result<()> {

@@ -1,16 +1,16 @@
 -- Records taken out of a good store leave the words of the machine without them. Assumes nothing.
+use Rattle.std.specs.Prelude.{Ok}
 use Prim.Native.Nat.{ℕ, ◌+◌, ◌-◌, ◌*◌, ◌≤◌, ◌<◌}
 use mathlib.Core.Path.{◌≡◌, sym, ap, ◌∙◌}
 use mathlib.Core.List.{List, [], ◌++◌, append_assoc}
 use native.Mathlib.Omega.{arith}
 use lib.ListN.{length, set, drop, take, length-append}
 use lib.Seq.{take_at, drop_at}
-use Rattle.machine.specs.Answer.{Result, ok, edited_numbers}
+use Rattle.machine.specs.Answer.{Result, edited_numbers}
 use Rattle.machine.specs.Record.{Words}
 use Rattle.machine.specs.Store.{Branch, Machine, flat, records, stored, lay_out, laid, end}
 use Rattle.machine.specs.Lists.{concat_map}
 use Rattle.machine.specs.Edit.{Change, changed, step_by, up, replace_at}
-use Rattle.machine.specs.declared.Edited.TheVariants.{Done}
 use Rattle.laws.specs.Lists.{sum-append}
 use Rattle.laws.specs.Grouped.{concat, twelve-words}
 use Rattle.laws.specs.Layout.{lay_out-read, read-parts, read_length, length-parts}
@@ -94,8 +94,8 @@ module _ (w : List ℕ) (g : Good w) (m' : Machine) (p q : ℕ) (c : CutOut (rec
       rw (chunks-take q (length rs) w (cut_high _ _ p q c), whole-records w g, cut-taken _ _ p q c, ← atom_records-stored (held w), ← atom_records-stored m') (cut-counts _ _ p q c)
 
   -- "removed, the atom records before minus those after"
-  pub cut_step : (step : Machine → Result Change) → step (held w) ≡ ok (changed m') → (r : ℕ) (s : List ℕ) → r ≡ atom_records (records_in p q w) → s ≡ without_records p q w
-      → (edited_numbers (Done 1 r), s) ≡ step_by w step
+  pub cut_step : (step : Machine → Result Change) → step (held w) ≡ Ok (changed m') → (r : ℕ) (s : List ℕ) → r ≡ atom_records (records_in p q w) → s ≡ without_records p q w
+      → (edited_numbers (Ok (record { found = 1; removed = r })), s) ≡ step_by w step
   unfolding step_by
   cut_step step a r s e f = rw (g, a, e, f, cut-atoms, cut-words)
 

@@ -1,9 +1,9 @@
 -- The first child that an id names: its record among those below its parent, and its branch among the parent's children. Assumes nothing.
+use Rattle.std.specs.Prelude.{None, Option, Some, option_map}
 use Prim.Native.Nat.{ℕ, suc, ◌+◌, ◌≤◌, ◌<◌}
 use mathlib.Core.Path.{◌≡◌, refl, sym, ap, ◌∙◌}
 use mathlib.Core.Bool.{Bool, true, false, cond}
 use mathlib.Core.List.{List, [], ◌∷◌, ◌++◌, append_assoc}
-use mathlib.Core.Option.{Option, none, some, map}
 use native.Mathlib.Omega.{arith}
 use lib.ListN.{length, drop, length-append}
 use lib.Seq.{drop_at}
@@ -73,8 +73,8 @@ cut-child d j pos ts p q s i o c at stop e f =
 
 -- by what the machine picks
 abbrev pub Picked : (j : ℕ) → Option ℕ → List (Branch j) → ℕ → Type 0
-Picked j none ts o = o ≡ length (concat_map (flat j) ts)
-Picked j (some i) ts o = Child j ts i o
+Picked j None ts o = o ≡ length (concat_map (flat j) ts)
+Picked j (Some i) ts o = Child j ts i o
 
 module _ (h j : ℕ) (level : h + j ≡ 5) (p : Fields j → Bool) (test : Words → Bool) (agree : (f : Fields j) → test (words j f) ≡ p f)
     (deeper : (r : Words) → h < kind r → test r ≡ false) where
@@ -92,10 +92,10 @@ module _ (h j : ℕ) (level : h + j ≡ 5) (p : Fields j → Bool) (test : Words
   count_before-no t rest e = rw (flat-root j t, agree (root j t), e, count_before-under (under j t) rest (under-kinds h j level t)) (omega arith)
 
   pick-on : (t : Branch j) (ts : List (Branch j)) (b : Bool) → p (root j t) ≡ b → (o : Option ℕ) → Picked j o ts (count_before test (concat_map (flat j) ts))
-      → Picked j (cond b (some 0) (map suc o)) (t ∷ ts) (count_before test (flat j t ++ concat_map (flat j) ts))
+      → Picked j (cond b (Some 0) (option_map suc o)) (t ∷ ts) (count_before test (flat j t ++ concat_map (flat j) ts))
   pick-on t ts true e o x = record { branch = t; around = record { before = []; after = ts; was = refl; is = λ f. refl }; offset = count_before-yes t (concat_map (flat j) ts) e }
-  pick-on t ts false e none x = count_before-no t (concat_map (flat j) ts) e ∙ rw x (sym (length-append (flat j t) (concat_map (flat j) ts)))
-  pick-on t ts false e (some i) x =
+  pick-on t ts false e None x = count_before-no t (concat_map (flat j) ts) e ∙ rw x (sym (length-append (flat j t) (concat_map (flat j) ts)))
+  pick-on t ts false e (Some i) x =
       let a = x.around in
       record {
         branch = x.branch;

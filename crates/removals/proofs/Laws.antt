@@ -1,29 +1,27 @@
 -- What each return gives, by the position's length. Assumes nothing.
+use Rattle.machine.specs.declared.Edited.{Edited}
+use Rattle.std.specs.Prelude.{Err, None, Ok, Option, Some}
 use Prim.Native.Nat.{ℕ, suc, ◌+◌, ◌-◌, ◌*◌, ◌≤◌, ◌<◌}
 use mathlib.Core.Path.{◌≡◌, refl, sym, ap, ◌∙◌}
 use mathlib.Core.Bool.{Bool, and-true}
 use mathlib.Core.List.{List, [], ◌∷◌}
-use mathlib.Core.Option.{Option, none, some}
 use native.Mathlib.Omega.{arith}
 use lib.ListN.{length, drop, set}
 use lib.Seq.{drop-drop}
 use borrow.Author.Tests.{eq-eqb, le-leb, lt-leb, ne_eqb}
 use Rattle.machine.specs.Lists.{concat_map, first_where, splice}
-use Rattle.machine.specs.Answer.{Result, ok, refused, bad_name, edited_numbers}
+use Rattle.machine.specs.Answer.{Result, bad_name, edited_numbers}
 use Rattle.machine.specs.Record.{Fields, words, kind}
 use Rattle.machine.specs.Store.{Branch, Machine, flat, records, stored, end, chunks}
 use Rattle.machine.specs.Edit.{up, branch_at, remove_at, replace_at, root, with_children, remove_first, with_machine, with_found, step_by}
 use Rattle.machine.specs.declared.Refusal.{Refusal}
 use Rattle.machine.specs.declared.Refusal.TheVariants.{NoPosition}
 use Rattle.machine.specs.declared.Name.TheVariants.{InsertionCode, AlternativeLocation}
-use Rattle.machine.specs.declared.Edited as Edited
-use Rattle.machine.specs.declared.Edited.TheVariants.{Done, Refused}
 use Rattle.laws.specs.Layout.{lay_out-read}
 use Rattle.moves.specs.Over.{taken_out}
-use Rattle.seek.specs.Seek.{Good, Within, held, records_in, descendants, atom_records, span_at, span, span_of}
+use Rattle.seek.specs.Seek.{Good, Within, held, records_in, descendants, atom_records, span_at, span}
 use Rattle.seek.proofs.Below.{records_in-cons}
-use Rattle.seek.proofs.Laws.{Stands, missing, found, stands-within, stands_records}
-use Rattle.seek.specs.declared.Span as Span
+use Rattle.seek.proofs.Laws.{Stands, missing, stands, stands-within, stands_records}
 use Rattle.removals.specs.Removal.{Removable, without_records, removal_on, removal}
 use Rattle.removals.specs.Named.{Id, id_of, is_named, sought, count_before, names, bad_flag, flag_of, first_on, first_removal}
 use Rattle.removals.proofs.Cut.{CutOut, cut-removable, cut_step, cut-branch}
@@ -39,15 +37,15 @@ span-words w x p q e = rw e
 
 -- a call by a position: where the position stands nowhere it is refused
 record ByPosition {A : Type 0} (s : Option (ℕ × ℕ)) (r : Result A) (Found : ℕ → ℕ → Type 0) : Type 0 where
-  missing : span_of s ≡ Span.TheVariants.Missing → r ≡ refused NoPosition
-  found : (p q : ℕ) → span_of s ≡ Span.TheVariants.At p q → Found p q
+  missing : s ≡ None → r ≡ Err NoPosition
+  found : (p q : ℕ) → s ≡ Some (p, q) → Found p q
 
 -- ---- remove_at
 
 -- an accepted removal, by the records that go
 record Removes (k : ℕ) (ts : List (Branch k)) (r : Result (List (Branch k))) (p q : ℕ) : Type 0 where
   after : List (Branch k)
-  accepted : r ≡ ok after
+  accepted : r ≡ Ok after
   cut : CutOut (concat_map (flat k) ts) (concat_map (flat k) after) p q
 
 removes : (d j : ℕ) (pos : List ℕ) (ts : List (Branch (up d j))) → ByPosition (span_at d j pos 0 ts) (remove_at d j pos ts) (Removes (up d j) ts (remove_at d j pos ts))
@@ -56,7 +54,7 @@ removes d j pos ts =
     record {
       missing = λ e. rw (missing d j pos 0 ts e);
       found = λ p q e.
-          let s = found d j pos 0 ts p q e in
+          let s = stands d j pos 0 ts p q e in
           record { after = replace_at d j pos [] ts; accepted = rw s.there; cut = cut-branch d j pos ts p q s };
     }
 
@@ -69,17 +67,17 @@ removed-at (i ∷ (c ∷ (r ∷ (f ∷ [])))) m lo hi = removes 3 1 _ m
 removed-at (i ∷ (c ∷ (r ∷ (f ∷ (a ∷ []))))) m lo hi = removes 4 0 _ m
 removed-at (i ∷ (c ∷ (r ∷ (f ∷ (a ∷ (x ∷ is)))))) m lo hi = absurd (omega arith)
 
-module _ (w pos : List ℕ) (g : Good w) (lo : 2 ≤ length pos) (hi : length pos ≤ 5) (r : Span.Span) (e : r ≡ span_of (span pos (held w))) where
-  pub at-missing : r ≡ Span.TheVariants.Missing → (edited_numbers (Refused NoPosition), w) ≡ step_by w (removal pos)
+module _ (w pos : List ℕ) (g : Good w) (lo : 2 ≤ length pos) (hi : length pos ≤ 5) (r : Option (ℕ × ℕ)) (e : r ≡ span pos (held w)) where
+  pub at-missing : r ≡ None → (edited_numbers (Err NoPosition), w) ≡ step_by w (removal pos)
   unfolding step_by
   at-missing f = rw (g, (removed-at pos (held w) lo hi).missing (sym e ∙ f))
 
-  module _ (p q : ℕ) (f : r ≡ Span.TheVariants.At p q) where
+  module _ (p q : ℕ) (f : r ≡ Some (p, q)) where
     pub at-removable : Removable p q w
     at-removable = let s = (removed-at pos (held w) lo hi).found p q (sym e ∙ f) in cut-removable w g s.after p q s.cut
 
     pub at-removed : (n : ℕ) (v : List ℕ) → n ≡ atom_records (records_in p q w) → v ≡ without_records p q w
-        → (edited_numbers (Done 1 n), v) ≡ step_by w (removal pos)
+        → (edited_numbers (Ok (record { found = 1; removed = n })), v) ≡ step_by w (removal pos)
     at-removed n v a b =
         let s = (removed-at pos (held w) lo hi).found p q (sym e ∙ f) in
         cut_step w g s.after p q s.cut (removal pos) (ap with_machine s.accepted) n v a b
@@ -95,27 +93,27 @@ location-flag h r k e = rw (ne_eqb h 3 k) e
 -- the child that goes, by the records from number at up to stop
 record Loses (k : ℕ) (ts : List (Branch k)) (r : Result (ℕ × List (Branch k))) (at stop : ℕ) : Type 0 where
   after : List (Branch k)
-  accepted : r ≡ ok (1, after)
+  accepted : r ≡ Ok (1, after)
   cut : CutOut (concat_map (flat k) ts) (concat_map (flat k) after) at stop
 
 -- below the parent's record p and up to q
 record BelowParent (w : List ℕ) (h : ℕ) (id : Id) (k : ℕ) (ts : List (Branch k)) (r : Result (ℕ × List (Branch k))) (p q : ℕ) : Type 0 where
   within : Within (p + 1) q w
-  flagged : (x : Refusal) → flag_of h id ≡ refused x → r ≡ refused x
-  unfound : (at : ℕ) → flag_of h id ≡ ok tt → at ≡ p + 1 + count_before (sought h id) (records_in (p + 1) q w) → q ≤ at → r ≡ ok (0, ts)
-  lost : (at stop : ℕ) → flag_of h id ≡ ok tt → at ≡ p + 1 + count_before (sought h id) (records_in (p + 1) q w) → at < q → stop ≡ at + 1 + descendants h (records_in (at + 1) q w)
+  flagged : (x : Refusal) → flag_of h id ≡ Err x → r ≡ Err x
+  unfound : (at : ℕ) → flag_of h id ≡ Ok tt → at ≡ p + 1 + count_before (sought h id) (records_in (p + 1) q w) → q ≤ at → r ≡ Ok (0, ts)
+  lost : (at stop : ℕ) → flag_of h id ≡ Ok tt → at ≡ p + 1 + count_before (sought h id) (records_in (p + 1) q w) → at < q → stop ≡ at + 1 + descendants h (records_in (at + 1) q w)
       → Loses k ts r at stop
 
-module _ (d j : ℕ) (pos : List ℕ) (flag : Result (Unit {0})) (f : Fields j → Bool) (ts : List (Branch (up d (suc j)))) (t : Branch (suc j)) (there : branch_at d (suc j) pos ts ≡ some t) where
-  first-refused : (x : Refusal) → flag ≡ refused x → remove_first d j pos flag f ts ≡ refused x
+module _ (d j : ℕ) (pos : List ℕ) (flag : Result (Unit {0})) (f : Fields j → Bool) (ts : List (Branch (up d (suc j)))) (t : Branch (suc j)) (there : branch_at d (suc j) pos ts ≡ Some t) where
+  first-refused : (x : Refusal) → flag ≡ Err x → remove_first d j pos flag f ts ≡ Err x
   unfolding remove_first
   first-refused x e = rw (there, e)
 
-  first-none : flag ≡ ok tt → first_where (λ u. f (root j u)) t.1 ≡ none → remove_first d j pos flag f ts ≡ ok (0, ts)
+  first-none : flag ≡ Ok tt → first_where (λ u. f (root j u)) t.1 ≡ None → remove_first d j pos flag f ts ≡ Ok (0, ts)
   unfolding remove_first
   first-none e n = rw (there, e, n)
 
-  first_some : (i : ℕ) → flag ≡ ok tt → first_where (λ u. f (root j u)) t.1 ≡ some i → remove_first d j pos flag f ts ≡ ok (1, with_children d j pos t (splice i (λ u. []) t.1) ts)
+  first_some : (i : ℕ) → flag ≡ Ok tt → first_where (λ u. f (root j u)) t.1 ≡ Some i → remove_first d j pos flag f ts ≡ Ok (1, with_children d j pos t (splice i (λ u. []) t.1) ts)
   unfolding remove_first
   first_some i e n = rw (there, e, n)
 
@@ -141,15 +139,15 @@ module _ (w : List ℕ) (g : Good w) (d j : ℕ) (pos : List ℕ) (ts : List (Br
     pick : Picked j (first_where (λ u. f (root j u)) kids) kids (count_before (sought h id) (records_in (p + 1) q w))
     pick = rw kids-records (picked h j level f (sought h id) agree (λ r l. rw (ne_eqb (kind r) h (λ e. omega arith))) kids)
 
-    not_found : (o : Option ℕ) (at : ℕ) → first_where (λ u. f (root j u)) kids ≡ o → Picked j o kids (count_before (sought h id) (records_in (p + 1) q w)) → flag_of h id ≡ ok tt
-        → at ≡ p + 1 + count_before (sought h id) (records_in (p + 1) q w) → q ≤ at → result ≡ ok (0, ts)
-    not_found none at e x fl a l = first-none d j pos (flag_of h id) f ts s.branch s.there fl e
-    not_found (some i) at e x fl a l = absurd (omega (arith, ends, child-low j kids i _ x))
+    not_found : (o : Option ℕ) (at : ℕ) → first_where (λ u. f (root j u)) kids ≡ o → Picked j o kids (count_before (sought h id) (records_in (p + 1) q w)) → flag_of h id ≡ Ok tt
+        → at ≡ p + 1 + count_before (sought h id) (records_in (p + 1) q w) → q ≤ at → result ≡ Ok (0, ts)
+    not_found None at e x fl a l = first-none d j pos (flag_of h id) f ts s.branch s.there fl e
+    not_found (Some i) at e x fl a l = absurd (omega (arith, ends, child-low j kids i _ x))
 
-    loses : (o : Option ℕ) (at stop : ℕ) → first_where (λ u. f (root j u)) kids ≡ o → Picked j o kids (count_before (sought h id) (records_in (p + 1) q w)) → flag_of h id ≡ ok tt
+    loses : (o : Option ℕ) (at stop : ℕ) → first_where (λ u. f (root j u)) kids ≡ o → Picked j o kids (count_before (sought h id) (records_in (p + 1) q w)) → flag_of h id ≡ Ok tt
         → at ≡ p + 1 + count_before (sought h id) (records_in (p + 1) q w) → at < q → stop ≡ at + 1 + descendants h (records_in (at + 1) q w) → Loses (up d (suc j)) ts result at stop
-    loses none at stop e x fl a l b = absurd (omega (arith, ends, x))
-    loses (some i) at stop e x fl a l b =
+    loses None at stop e x fl a l b = absurd (omega (arith, ends, x))
+    loses (Some i) at stop e x fl a l b =
         let o = count_before (sought h id) (records_in (p + 1) q w) in
         let n : p + 1 + suc o ≡ at + 1 = omega arith in
         let c : records_in (at + 1) q w ≡ drop (suc o) (concat_map (flat j) kids) = rw (← n, ← kids-records) (sym (drop-drop (suc o) (p + 1) (chunks q w))) in
@@ -174,7 +172,7 @@ module _ (w : List ℕ) (g : Good w) (d j : ℕ) (pos : List ℕ) (ts : List (Br
   first_by =
       record {
         missing = λ e. rw (missing d (suc j) pos 0 ts e);
-        found = λ p q e. below-parent p q (found d (suc j) pos 0 ts p q e);
+        found = λ p q e. below-parent p q (stands d (suc j) pos 0 ts p q e);
       }
 
 -- a record of each kind, by its words
@@ -188,11 +186,11 @@ first-at w (i ∷ (c ∷ (r ∷ []))) id g lo hi = first_by w g 2 1 _ (held w) r
 first-at w (i ∷ (c ∷ (r ∷ (f ∷ [])))) id g lo hi = first_by w g 3 0 _ (held w) refl 5 refl (omega arith) id (names 0 id) (λ x. and-true _)
 first-at w (i ∷ (c ∷ (r ∷ (f ∷ (x ∷ is))))) id g lo hi = absurd (omega arith)
 
-abbrev Outcome : List ℕ → List ℕ → Id → Edited.Edited → List ℕ → Type 0
+abbrev Outcome : List ℕ → List ℕ → Id → Result Edited → List ℕ → Type 0
 Outcome w pos id r v = (edited_numbers r, v) ≡ step_by w (first_removal pos id)
 
-pub first-missing : (w pos : List ℕ) (serial : ℕ) (name : List ℕ) (flag : ℕ) (text : List ℕ) → Good w → 1 ≤ length pos → length pos ≤ 4 → (r : Span.Span) → r ≡ span_of (span pos (held w))
-    → r ≡ Span.TheVariants.Missing → Outcome w pos (id_of serial name flag text) (Refused NoPosition) w
+pub first-missing : (w pos : List ℕ) (serial : ℕ) (name : List ℕ) (flag : ℕ) (text : List ℕ) → Good w → 1 ≤ length pos → length pos ≤ 4 → (r : Option (ℕ × ℕ)) → r ≡ span pos (held w)
+    → r ≡ None → Outcome w pos (id_of serial name flag text) (Err NoPosition) w
 unfolding step_by
 first-missing w pos serial name flag text g lo hi r e f = rw (g, (first-at w pos (id_of serial name flag text) g lo hi).missing (sym e ∙ f))
 
@@ -201,9 +199,9 @@ pub record Parent (w pos : List ℕ) (p q : ℕ) : Type 0 where
   pub good : Good w
   pub low : 1 ≤ length pos
   pub high : length pos ≤ 4
-  pub there : span_of (span pos (held w)) ≡ Span.TheVariants.At p q
+  pub there : (span pos (held w)) ≡ Some (p, q)
 
-pub parent : (w pos : List ℕ) → Good w → 1 ≤ length pos → length pos ≤ 4 → (r : Span.Span) → r ≡ span_of (span pos (held w)) → (p q : ℕ) → r ≡ Span.TheVariants.At p q → Parent w pos p q
+pub parent : (w pos : List ℕ) → Good w → 1 ≤ length pos → length pos ≤ 4 → (r : Option (ℕ × ℕ)) → r ≡ span pos (held w) → (p q : ℕ) → r ≡ Some (p, q) → Parent w pos p q
 parent w pos g lo hi r e p q f = record { good = g; low = lo; high = hi; there = sym e ∙ f }
 
 module _ {w pos : List ℕ} {p q : ℕ} (s : Parent w pos p q) (serial : ℕ) (name : List ℕ) (flag : ℕ) (text : List ℕ) where
@@ -216,16 +214,16 @@ module _ {w pos : List ℕ} {p q : ℕ} (s : Parent w pos p q) (serial : ℕ) (n
   pub first-within : Within (p + 1) q w
   first-within = below.within
 
-  pub first-flag : (x : Refusal) → 1 < flag → x ≡ bad_flag (length pos + 1) → Outcome w pos given (Refused x) w
+  pub first-flag : (x : Refusal) → 1 < flag → x ≡ bad_flag (length pos + 1) → Outcome w pos given (Err x) w
   unfolding step_by
   first-flag x l e = rw (s.good, below.flagged x (rw (lt-leb flag 1 l, e)))
 
   module _ (l : flag ≤ 1) (at : ℕ) (a : at ≡ p + 1 + count_before (sought (length pos + 1) given) (records_in (p + 1) q w)) where
-    good-flag : flag_of (length pos + 1) given ≡ ok tt
+    good-flag : flag_of (length pos + 1) given ≡ Ok tt
     good-flag = rw (le-leb flag 1 l)
 
     -- "None found: found 0"
-    pub first-unfound : q ≤ at → Outcome w pos given (Done 0 0) w
+    pub first-unfound : q ≤ at → Outcome w pos given (Ok (record { found = 0; removed = 0 })) w
     unfolding step_by
     first-unfound b =
         let z : stored (held w) - stored (held w) ≡ 0 = omega arith in
@@ -238,5 +236,5 @@ module _ {w pos : List ℕ} {p q : ℕ} (s : Parent w pos p q) (serial : ℕ) (n
       pub first-removable : Removable at stop w
       first-removable = let t = lost-child in cut-removable w s.good t.after at stop t.cut
 
-      pub first-removed : (n : ℕ) (v : List ℕ) → n ≡ atom_records (records_in at stop w) → v ≡ without_records at stop w → Outcome w pos given (Done 1 n) v
+      pub first-removed : (n : ℕ) (v : List ℕ) → n ≡ atom_records (records_in at stop w) → v ≡ without_records at stop w → Outcome w pos given (Ok (record { found = 1; removed = n })) v
       first-removed n v x y = let t = lost-child in cut_step w s.good t.after at stop t.cut (first_removal pos given) (ap with_found t.accepted) n v x y

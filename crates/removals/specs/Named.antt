@@ -1,7 +1,7 @@
 -- What the removals by id cite: the records that an id names, and the machine's removal by a parent's position of any length.
 -- Assumes nothing.
-use Rattle.std.specs.Prelude.{ℕ, zero, suc, Bool, true, false, ◌&&◌, cond, List, [], ◌∷◌, length, get_or, eqb}
-use Rattle.machine.specs.Answer.{Result, ok, refused, need, bad_name}
+use Rattle.std.specs.Prelude.{ℕ, zero, suc, Bool, true, false, ◌&&◌, cond, List, [], ◌∷◌, length, get_or, eqb, Err, Ok}
+use Rattle.machine.specs.Answer.{Result, need, bad_name}
 use Rattle.machine.specs.Text.{Optional, good_flag, matches, matches_optional}
 use Rattle.machine.specs.Record.{Words, Fields, kind}
 use Rattle.machine.specs.Store.{Machine}
@@ -56,12 +56,12 @@ flag_of kind id = need (good_flag id.other) (bad_flag kind)
 
 -- the parent's position has one index for a model, four for a conformer
 abbrev pub first_on : ℕ → List ℕ → Id → Machine → Result (ℕ × Machine)
-first_on zero pos id m = refused NoPosition
+first_on zero pos id m = Err NoPosition
 first_on (suc zero) pos id m = remove_first 0 3 pos (flag_of 2 id) (names 3 id) m
 first_on (suc (suc zero)) pos id m = remove_first 1 2 pos (flag_of 3 id) (names 2 id) m
 first_on (suc (suc (suc zero))) pos id m = remove_first 2 1 pos (flag_of 4 id) (names 1 id) m
 first_on (suc (suc (suc (suc zero)))) pos id m = remove_first 3 0 pos (flag_of 5 id) (names 0 id) m
-first_on (suc (suc (suc (suc (suc n))))) pos id m = refused NoPosition
+first_on (suc (suc (suc (suc (suc n))))) pos id m = Err NoPosition
 
 abbrev pub first_removal : List ℕ → Id → Machine → Result Change
 first_removal pos id m = with_found (first_on (length pos) pos id m)
@@ -69,7 +69,7 @@ first_removal pos id m = with_found (first_on (length pos) pos id m)
 -- ---- the four calls: the machine's steps
 
 abbrev pub chain_by_id : ℕ → List ℕ → Machine → Result Change
-chain_by_id i id m = with_found (remove_first 0 3 (i ∷ []) (ok tt) (λ c. matches id c.id) m)
+chain_by_id i id m = with_found (remove_first 0 3 (i ∷ []) (Ok tt) (λ c. matches id c.id) m)
 
 abbrev pub residue_by_id : (model chain : ℕ) → ℕ → Optional → Machine → Result Change
 residue_by_id i c serial code m =
@@ -80,4 +80,4 @@ conformer_by_id i c r name location m =
     with_found (remove_first 2 1 (i ∷ c ∷ r ∷ []) (need (good_flag location) (bad_name AlternativeLocation)) (λ f. matches name f.name && matches_optional location f.location) m)
 
 abbrev pub atom_by_serial_number : (model chain residue conformer : ℕ) → ℕ → Machine → Result Change
-atom_by_serial_number i c r f serial m = with_found (remove_first 3 0 (i ∷ c ∷ r ∷ f ∷ []) (ok tt) (λ a. eqb a.serial serial) m)
+atom_by_serial_number i c r f serial m = with_found (remove_first 3 0 (i ∷ c ∷ r ∷ f ∷ []) (Ok tt) (λ a. eqb a.serial serial) m)

@@ -1,6 +1,6 @@
 -- What the contracts of `src/` cite: records taken out of a store's words, and removals by a position of any length. Assumes nothing.
-use Rattle.std.specs.Prelude.{ℕ, zero, suc, ◌-◌, ◌*◌, ◌≤◌, ◌<◌, List, length, set}
-use Rattle.machine.specs.Answer.{Result, refused}
+use Rattle.std.specs.Prelude.{ℕ, zero, suc, ◌-◌, ◌*◌, ◌≤◌, ◌<◌, List, length, set, Err}
+use Rattle.machine.specs.Answer.{Result}
 use Rattle.machine.specs.Store.{Machine, end}
 use Rattle.machine.specs.Edit.{Change, remove_at, with_machine}
 use Rattle.machine.specs.declared.Refusal.TheVariants.{NoPosition}
@@ -22,13 +22,13 @@ without_records p q w = set (taken_out (12 * p) (12 * q) (end w) w) (length w - 
 -- ---- positions: two indexes for a chain, five for an atom
 
 abbrev pub removal_on : ℕ → List ℕ → Machine → Result Machine
-removal_on zero pos m = refused NoPosition
-removal_on (suc zero) pos m = refused NoPosition
+removal_on zero pos m = Err NoPosition
+removal_on (suc zero) pos m = Err NoPosition
 removal_on (suc (suc zero)) pos m = remove_at 1 3 pos m
 removal_on (suc (suc (suc zero))) pos m = remove_at 2 2 pos m
 removal_on (suc (suc (suc (suc zero)))) pos m = remove_at 3 1 pos m
 removal_on (suc (suc (suc (suc (suc zero))))) pos m = remove_at 4 0 pos m
-removal_on (suc (suc (suc (suc (suc (suc n)))))) pos m = refused NoPosition
+removal_on (suc (suc (suc (suc (suc (suc n)))))) pos m = Err NoPosition
 
 abbrev pub removal : List ℕ → Machine → Result Change
 removal pos m = with_machine (removal_on (length pos) pos m)

@@ -9,7 +9,6 @@ ghost use Rattle.removals.specs.Removal.{Removable, without_records, removal};
 ghost use Rattle.removals.specs.Named.{id_of, is_named, sought, count_before, bad_flag, first_removal, chain_by_id, residue_by_id, conformer_by_id, atom_by_serial_number};
 
 use machine::{Edited, Name, Record, Refusal};
-use seek::Span;
 
 // The records from number p up to q go, and the trailer is set: how many atoms went.
 pub fn remove_span(store: &mut [u64], p: usize, q: usize) -> u64
@@ -27,15 +26,16 @@ pub fn remove_span(store: &mut [u64], p: usize, q: usize) -> u64
 }
 
 // "Remove by position": two indexes for a chain, five for an atom.
-pub fn remove_at(store: &mut [u64], position: &[u64]) -> Edited
+pub fn remove_at(store: &mut [u64], position: &[u64]) -> Result<Edited, Refusal>
     requires good { Good store.old }
     requires in_bounds { (2 ≤ length position.now) × (length position.now ≤ 5) }
     ensures { (edited_numbers result, store.new) ≡ step_by store.old (removal position.now) }
 {
-    let Span::At(p, q) = seek::locate(store, position) else {
-        return Edited::Refused(Refusal::NoPosition);
-    };
-    Edited::Done(1, remove_span(store, p, q))
+    let (p, q) = seek::locate(store, position)?;
+    Ok(Edited {
+        found: 1,
+        removed: remove_span(store, p, q),
+    })
 }
 
 // ---- by id
@@ -86,11 +86,10 @@ fn first_named(
     ensures { result ≡ from + count_before (sought kind (id_of serial name.now flag other.now))
         (records_in from end store.now) }
 {
-    let mut at: usize = from;
-    while at < end {
+    for at in from..end {
         let word = at * Record::WIDTH;
-        if store[word] == kind {
-            if is_named(
+        if store[word] == kind
+            && is_named(
                 kind,
                 store[word + Record::FIRST],
                 store[word + Record::SECOND],
@@ -98,15 +97,12 @@ fn first_named(
                 name,
                 flag,
                 other,
-            ) {
-                return at;
-            }
-            at += 1;
-        } else {
-            at += 1;
+            )
+        {
+            return at;
         }
     }
-    at
+    end
 }
 
 // A residue's id has a flag for its code, a conformer's one for its location.
@@ -114,9 +110,9 @@ fn bad_flag(kind: u64) -> Refusal
     ensures { result ≡ bad_flag kind }
 {
     if kind == Record::RESIDUE {
-        return answers::bad_name(Name::InsertionCode);
+        return Name::InsertionCode.into();
     }
-    answers::bad_name(Name::AlternativeLocation)
+    Name::AlternativeLocation.into()
 }
 
 // "Remove the first by id within its parent": the parent's position has one index for a model, four for a conformer.
@@ -127,31 +123,35 @@ fn remove_first(
     name: &[u8],
     flag: u64,
     other: &[u8],
-) -> Edited
+) -> Result<Edited, Refusal>
     requires good { Good store.old }
     requires in_bounds { (1 ≤ length position.now) × (length position.now ≤ 4) }
     ensures { (edited_numbers result, store.new)
         ≡ step_by store.old (first_removal position.now (id_of serial name.now flag other.now)) }
 {
-    let Span::At(p, q) = seek::locate(store, position) else {
-        return Edited::Refused(Refusal::NoPosition);
-    };
+    let (p, q) = seek::locate(store, position)?;
     let kind = position.len() as u64 + 1;
     if 1 < flag {
-        return Edited::Refused(bad_flag(kind));
+        return Err(bad_flag(kind));
     }
     let at = first_named(store, p + 1, q, kind, serial, name, flag, other);
     if q <= at {
-        return Edited::Done(0, 0);
+        return Ok(Edited {
+            found: 0,
+            removed: 0,
+        });
     }
     let stop = seek::end_of(store, at + 1, q, kind);
-    Edited::Done(1, remove_span(store, at, stop))
+    Ok(Edited {
+        found: 1,
+        removed: remove_span(store, at, stop),
+    })
 }
 
 // The four calls. A text is compared as given, and the parts of an id that a call has not are passed as 0 or as a text that isn't
 // read. "None found: found 0", and nothing changes.
 
-pub fn remove_chain_by_id(store: &mut [u64], model: u64, id: &[u8]) -> Edited
+pub fn remove_chain_by_id(store: &mut [u64], model: u64, id: &[u8]) -> Result<Edited, Refusal>
     requires { Good store.old }
     ensures { (edited_numbers result, store.new) ≡ step_by store.old (chain_by_id model id.now) }
 {
@@ -166,7 +166,7 @@ pub fn remove_residue_by_id(
     serial: u64,
     flag: u64,
     code: &[u8],
-) -> Edited
+) -> Result<Edited, Refusal>
     requires { Good store.old }
     ensures { (edited_numbers result, store.new)
         ≡ step_by store.old (residue_by_id model chain serial (record { flag = flag; text = code.now })) }
@@ -183,7 +183,7 @@ pub fn remove_conformer_by_id(
     name: &[u8],
     flag: u64,
     location: &[u8],
-) -> Edited
+) -> Result<Edited, Refusal>
     requires { Good store.old }
     ensures { (edited_numbers result, store.new)
         ≡ step_by store.old (conformer_by_id model chain residue name.now (record { flag = flag; text = location.now })) }
@@ -199,7 +199,7 @@ pub fn remove_atom_by_serial_number(
     residue: u64,
     conformer: u64,
     serial: u64,
-) -> Edited
+) -> Result<Edited, Refusal>
     requires { Good store.old }
     ensures { (edited_numbers result, store.new) ≡ step_by store.old (atom_by_serial_number model chain residue conformer serial) }
 {

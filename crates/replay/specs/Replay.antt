@@ -1,9 +1,8 @@
 -- A recorded list of edits, run again. Assumes nothing.
-use Rattle.std.specs.Prelude.{ℕ, ◌≤◌, Bool, ◌&&◌, List, length, replicate}
+use Rattle.std.specs.Prelude.{ℕ, ◌+◌, ◌≤◌, ◌<◌, Bool, ◌&&◌, List, length, replicate}
 use Rattle.machine.specs.Lists.{same}
 use Rattle.edits.specs.Apply.{Run, apply_run}
-use Rattle.replay.specs.declared.Replayed.{Replayed}
-use Rattle.replay.specs.declared.Replayed.TheVariants.{Case, Malformed}
+use Rattle.replay.specs.declared.Case.{Case}
 
 abbrev pub ended : Run → List ℕ → List ℕ → Bool
 ended run answers left = same run.out answers && same run.store left
@@ -12,7 +11,6 @@ ended run answers left = same run.out answers && same run.store left
 abbrev pub as_recorded_lem : List ℕ → List ℕ → List ℕ → Bool
 as_recorded_lem list answers left = ended (apply_run (replicate (length left) 0) list (replicate (length answers) 0)) answers left
 
--- a case is read from n words: it has some, and its counts are no more than these
-abbrev pub Sized : ℕ → Replayed → Type 0
-Sized n (Case end calls accepted same) = (1 ≤ end) × (end ≤ n) × (calls ≤ end) × (accepted ≤ end)
-Sized n Malformed = Unit {0}
+-- a case at the start of n words, of which `left` stand behind it: it has some, and its counts are no more than these
+abbrev pub Sized : ℕ → Case → ℕ → Type 0
+Sized n c left = (left < n) × (c.calls + left ≤ n) × (c.accepted + left ≤ n)

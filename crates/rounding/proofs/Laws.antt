@@ -2,13 +2,13 @@
 use Prim.Native.Nat.{ℕ, zero, suc, ◌+◌, ◌-◌, ◌*◌, ◌/◌, ◌%◌, ◌^◌, ◌≤◌, ◌<◌, min}
 use mathlib.Core.Path.{◌≡◌, refl, sym, ap, ◌∙◌, subst}
 use mathlib.Core.Bool.{Bool, true, false, not, cond}
-use native.Mathlib.Nat.{le_trans, le_of_eq, lt_of_le_of_lt, le_of_lt, mul_left_comm, mul_comm, mul_assoc, mul-one, one-mul, mul_right_comm, mul-le-mul, div-le_self, mod-le, le-div_iff_mul-le}
+use native.Mathlib.Nat.{le_trans, le_of_eq, lt_of_le_of_lt, le_of_lt, mul_left_comm, mul_comm, mul_assoc, mul-one, one-mul, mul_right_comm, mul-le-mul, le-div_iff_mul-le}
 use native.Mathlib.Omega.{arith}
 use native.Mathlib.Numerals.{add-one}
-use lib.Dec.{T, le→leb, lit≤, lit<, ltb, leb, eqb}
+use lib.Dec.{T, lit≤, lit<, ltb, leb, eqb}
 use lib.Pow.{pow-add, pow_pos, pow_mono, shl_exact}
 use lib.IntN.{pos}
-use lib.Ieee.{Float, nan, inf, binary64, of_bits, to_bits, odd, of_fields, round, div, neg, of_int, in_float, is_nan}
+use lib.Ieee.{Float, nan, inf, binary64, of_bits, to_bits, odd, of_fields, round, div, neg, of_int, is_nan}
 use lib.Ieee.Exact.{HasValue, odd_sign}
 use borrow.Author.Tests.{lt-ltb, le-ltb, ne_eqb}
 use Rattle.machine.specs.Record.{finite}
@@ -17,15 +17,10 @@ use Rattle.laws.specs.Floats.{finite-field}
 use Rattle.laws.specs.Rounding.{nearest-once, nearest-same, nearest-none, quotient-below, units-of-value}
 use Rattle.lines.specs.Nearest.{quotient, neg-round, no_nan}
 
--- ---- power
+-- ---- nearest_whole
 
 pub shifted : (k : ℕ) → k ≤ 63 → 1 * 2 ^ k % 18446744073709551616 ≡ 2 ^ k
 shifted k h = shl_exact 1 k 64 (lit< tt) (omega arith) ∙ one-mul (2 ^ k)
-
-pub some-power : (k : ℕ) → k ≤ 63 → 1 ≤ 1 * 2 ^ k % 18446744073709551616
-some-power k h = subst (λ (z : ℕ). 1 ≤ z) (sym (shifted k h)) (pow_pos k)
-
--- ---- nearest_whole
 
 next : (a k u : ℕ) → u ≡ 2 ^ k → cond (ltb u (a % u * 2 + a / u % 2)) (suc (a / u)) (a / u) ≡ nearest_whole a (2 ^ k)
 next a k u e = sym (nearest-once a u) ∙ ap (nearest_whole a) e
@@ -35,12 +30,6 @@ stays a k u e h = ap (λ (t : Bool). cond t (suc (a / u)) (a / u)) (sym (le-ltb 
 
 pub goes-up : (a k u : ℕ) → u ≡ 2 ^ k → u < a % u * 2 + a / u % 2 → a / u + 1 ≡ nearest_whole a (2 ^ k)
 goes-up a k u e h = add-one (a / u) ∙ ap (λ (t : Bool). cond t (suc (a / u)) (a / u)) (sym (lt-ltb u (a % u * 2 + a / u % 2) h)) ∙ next a k u e
-
-pub rest-fits : (a u : ℕ) → a < 9223372036854775808 → a % u * 2 < 18446744073709551616
-rest-fits a u h = let l = mod-le a u in omega arith
-
-pub quotient_fits : (a u : ℕ) → a < 9223372036854775808 → a / u < 9223372036854775808
-quotient_fits a u h = lt_of_le_of_lt (div-le_self a u) h
 
 -- ---- in_units: the value that bits stand for
 
@@ -114,28 +103,14 @@ between b unit f n e h l v =
     ∙ sym (moved (2 ^ 52 + b % 2 ^ 52) x (1075 - f) unit (omega arith))
     ∙ sym (units-of-value unit (of_bits binary64 b) _ ((2 ^ 52 + b % 2 ^ 52) * 2 ^ x) (2 ^ 1074) (pow_pos 1074) (normal b x (omega arith) (omega arith)))
 
-pub as-it-is : (b unit f n : ℕ) → f ≡ b % 9223372036854775808 / 4503599627370496 → 1012 ≤ f → f ≤ 1074 → n < 10000000
-    → n ≡ nearest_whole ((4503599627370496 + b % 9223372036854775808 % 4503599627370496) * unit) (2 ^ (1075 - f)) → n ≡ min (in_units unit (of_bits binary64 b)) 10000000
-as-it-is b unit f n e h l k v = let w = between b unit f n e h l v in omega arith
-
-pub cut : (b unit f n : ℕ) → f ≡ b % 9223372036854775808 / 4503599627370496 → 1012 ≤ f → f ≤ 1074 → 10000000 ≤ n
-    → n ≡ nearest_whole ((4503599627370496 + b % 9223372036854775808 % 4503599627370496) * unit) (2 ^ (1075 - f)) → 10000000 ≡ min (in_units unit (of_bits binary64 b)) 10000000
-cut b unit f n e h l k v = let w = between b unit f n e h l v in omega arith
-
-pub product-fits : (t unit : ℕ) → unit ≤ 1000 → (4503599627370496 + t % 4503599627370496) * unit < 9223372036854775808
-product-fits t unit U =
-    let l : 4503599627370496 + t % 4503599627370496 ≤ 9007199254740992 = omega arith in
-    let m : (4503599627370496 + t % 4503599627370496) * unit ≤ 9007199254740992 * 1000 = mul-le-mul l U in
-    omega arith
+pub inside : (b unit f n : ℕ) → f ≡ b % 9223372036854775808 / 4503599627370496 → 1012 ≤ f → f ≤ 1074
+    → n ≡ nearest_whole ((4503599627370496 + b % 9223372036854775808 % 4503599627370496) * unit) (2 ^ (1075 - f)) → min n 10000000 ≡ min (in_units unit (of_bits binary64 b)) 10000000
+inside b unit f n e h l v = ap (λ (z : ℕ). min z 10000000) (between b unit f n e h l v)
 
 -- ---- nearest_bits
 
 abbrev divided : ℕ → ℕ → Float
 divided n u = div binary64 (of_int binary64 (pos n)) (of_int binary64 (pos u))
-
-pub in-float : (n : ℕ) → n < 4503599627370496 → T (in_float binary64 (pos n))
-unfolding in_float
-in-float n h = le→leb n 9007199254740992 (omega arith)
 
 module _ (n u : ℕ) (h : n < 4503599627370496) (l : 1 ≤ u) (k : u ≤ 1000) where
   is : divided n u ≡ round binary64 false n u

@@ -10,20 +10,13 @@ ghost use Rattle.machine.specs.Rounding.{nearest_whole, in_units};
 // The first number of units that no columns hold.
 pub const WIDE: u64 = 10_000_000;
 
-fn power(k: u64) -> u64
-    requires { k ≤ 63 }
-    ensures { (result ≡ 2 ^ k) × (1 ≤ result) }
-{
-    1u64 << k
-}
-
 // The whole number nearest to a / 2^k. "A binary value exactly halfway goes to the even last digit": an odd quotient adds one to twice the
 // rest, which decides at a half alone. So one comparison rounds, and no branch is mispredicted.
 fn nearest_whole(a: u64, k: u64) -> u64
     requires { (k ≤ 63) × (a < 0x8000_0000_0000_0000) }
     ensures { result ≡ nearest_whole a (2 ^ k) }
 {
-    let unit = power(k);
+    let unit = 1u64 << k;
     let q = a / unit;
     let twice = (a % unit) * 2;
     if unit < twice + q % 2 { q + 1 } else { q }
@@ -44,8 +37,7 @@ pub fn in_units(bits: u64, unit: u64) -> u64
         return WIDE;
     }
     let digits = 0x0010_0000_0000_0000 + magnitude % 0x0010_0000_0000_0000;
-    let n = nearest_whole(digits * unit, 1075 - field);
-    if n < WIDE { n } else { WIDE }
+    nearest_whole(digits * unit, 1075 - field).min(WIDE)
 }
 
 // The bits of the f64 nearest to n / unit, with a minus where it is negative: both numbers are exact as f64 values, and one division rounds.
@@ -55,7 +47,8 @@ pub fn nearest_bits(negative: bool, n: u64, unit: u64) -> u64
 {
     let size = (n as f64) / (unit as f64);
     if negative {
-        return f64::to_bits(-size);
+        (-size).to_bits()
+    } else {
+        size.to_bits()
     }
-    f64::to_bits(size)
 }

@@ -1,9 +1,9 @@
 -- Laws of fields read from their columns, one for each place of the code. Assumes nothing.
+use Rattle.std.specs.Prelude.{None, Option, Some, option_map}
 use Prim.Native.Nat.{ℕ, zero, suc, ◌+◌, ◌-◌, ◌*◌, ◌%◌, ◌^◌, ◌≤◌, ◌<◌}
 use mathlib.Core.Path.{◌≡◌, refl, sym, ap, ◌∙◌, subst}
 use mathlib.Core.Bool.{Bool, true, false, ◌&&◌, ◌||◌, cond, false≢true}
 use mathlib.Core.List.{List, [], ◌∷◌, ◌++◌, reverse}
-use mathlib.Core.Option.{Option, none, some, map}
 use native.Mathlib.Nat.{add-zero, one-le-pow, zero-lt-suc, le-mul_of_pos_right, lt_of_lt_of_le}
 use native.Mathlib.Numerals.{add-one}
 use native.Mathlib.Omega.{arith}
@@ -415,14 +415,14 @@ finite-decimal d k t h m =
     let n = figures (take k t) in
     finite-value (of_bits binary64 (nearest_bits d s n)) s (grid binary64 n (10 ^ d)) (2 ^ 1074) (value-back d s n (lt_of_lt_of_le (small.figures-small k t h) (lit≤ tt)) m)
 
-first-within : (p : List ℕ → Bool) (xs : List (List ℕ)) → or_zero (map suc (first_where p xs)) ≤ length xs
+first-within : (p : List ℕ → Bool) (xs : List (List ℕ)) → or_zero (option_map suc (first_where p xs)) ≤ length xs
 first-within p [] = omega arith
 first-within p (x ∷ xs) = go (p x) (first_where p xs) (first-within p xs)
   where
-    go : (t : Bool) (o : Option ℕ) → or_zero (map suc o) ≤ length xs → or_zero (map suc (cond t (some 0) (map suc o))) ≤ suc (length xs)
+    go : (t : Bool) (o : Option ℕ) → or_zero (option_map suc o) ≤ length xs → or_zero (option_map suc (cond t (Some 0) (option_map suc o))) ≤ suc (length xs)
     go true o h = omega arith
-    go false none h = omega arith
-    go false (some k) h = omega arith
+    go false None h = omega arith
+    go false (Some k) h = omega arith
 
 element-within : (t : List ℕ) → element_of t ≤ 118
 unfolding element_of
@@ -431,9 +431,9 @@ element-within t = go (first_where stands ([] ∷ symbols)) (first-within stands
     stands : List ℕ → Bool
     stands symbol = same t (column_text (at_right 2 symbol))
 
-    go : (o : Option ℕ) → or_zero (map suc o) ≤ 119 → or_zero o ≤ 118
-    go none h = omega arith
-    go (some k) h = omega arith
+    go : (o : Option ℕ) → or_zero (option_map suc o) ≤ 119 → or_zero o ≤ 118
+    go None h = omega arith
+    go (Some k) h = omega arith
 
 -- of any atom, the words without f64 values have the same columns but for these
 bare-size : (b : Atom) → length (words 0 b) ≡ 12

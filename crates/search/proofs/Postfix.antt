@@ -1,16 +1,16 @@
 -- The last operand of nodes in postfix order, by its last node. Assumes nothing.
+use Rattle.std.specs.Prelude.{Err, None, Ok, Some}
 use Prim.Native.Nat.{ℕ, suc, ◌+◌, ◌-◌, ◌≤◌, ◌<◌, ◌%◌}
 use mathlib.Core.Path.{◌≡◌, refl, sym, ap, ◌∙◌}
 use mathlib.Core.Bool.{Bool, true, false, ◌&&◌, false≢true}
 use mathlib.Core.List.{List, [], ◌∷◌, ◌++◌}
-use mathlib.Core.Option.{none, some}
 use native.Mathlib.Omega.{arith}
 use lib.ListN.{length, take, drop, get_or, length-take, take-append-drop}
 use lib.Seq.{drop-cons, drop-length, take-take}
 use lib.Dec.{leb, eqb}
 use borrow.Author.Tests.{eqb-true}
 use Rattle.machine.specs.Lists.{and_then}
-use Rattle.machine.specs.Answer.{Result, ok, refused, ◌>>=◌, ◌>>◌, need}
+use Rattle.machine.specs.Answer.{Result, ◌>>=◌, ◌>>◌, need}
 use Rattle.machine.specs.Kleene.{decided, not_t, apply_t}
 use Rattle.machine.specs.Query.{node_of, nodes_of, Stack, negate, combine, step, run, leaves_one, read_tree, tree_value}
 use Rattle.machine.specs.declared.Tri.{Tri}
@@ -24,8 +24,7 @@ use Rattle.search.specs.Nodes.{node_for, sort_for, nodes_in, checked}
 use Rattle.search.specs.Value.{push, has_operand, stack_of, Operand, Evaluated}
 use Rattle.search.specs.declared.Sort.{Sort}
 use Rattle.search.specs.declared.Part.{Part}
-use Rattle.search.specs.declared.CheckedTree.TheVariants.{Good}
-use Rattle.search.proofs.Nodes.{node_as, node-as, node-only}
+use Rattle.search.proofs.Nodes.{node_as, node-as, no-node, node-only}
 
 -- ---- the last node
 
@@ -41,8 +40,17 @@ abbrev pub node_on : List ℕ → ℕ → Node
 node_on t i = node_for (get_or t i 0) (get_or t (i + 1) 0) (get_or t (i + 2) 0)
 
 -- by the sort of its code
-pub on-sort : (t : List ℕ) (i : ℕ) (s : Sort) {r : Sort} → ((p q : ℕ) → r ≡ sort_for (get_or t i 0) p q) → r ≡ s → node_on t i ≡ node_as s (node_on t i)
-on-sort t i s f e = node-as (get_or t i 0) (get_or t (i + 1) 0) (get_or t (i + 2) 0) s (sym e ∙ f (get_or t (i + 1) 0) (get_or t (i + 2) 0))
+pub on-sort : (t : List ℕ) (i : ℕ) {s k : Sort} → ((p q : ℕ) → Some s ≡ sort_for (get_or t i 0) p q) → s ≡ k → node_on t i ≡ node_as k (node_on t i)
+on-sort t i f e =
+    let p = get_or t (i + 1) 0 in
+    let q = get_or t (i + 2) 0 in
+    node-as (get_or t i 0) p q (ap Some (sym e) ∙ f p q)
+
+pub on-none : (t : List ℕ) (i : ℕ) → ((p q : ℕ) → None ≡ sort_for (get_or t i 0) p q) → node_on t i ≡ Known false
+on-none t i f =
+    let p = get_or t (i + 1) 0 in
+    let q = get_or t (i + 2) 0 in
+    no-node (get_or t i 0) p q (f p q)
 
 last-three : (t : List ℕ) (i : ℕ) → i + 3 ≡ length t → drop i t ≡ get_or t i 0 ∷ get_or t (i + 1) 0 ∷ get_or t (i + 2) 0 ∷ []
 last-three t i h =
@@ -67,36 +75,36 @@ last-node t i h z =
 
 -- ---- stacks
 
-and_then-some : (o : Stack) → and_then o (λ (s : List Tri). some s) ≡ o
-and_then-some none = refl
-and_then-some (some s) = refl
+and_then-some : (o : Stack) → and_then o (λ (s : List Tri). Some s) ≡ o
+and_then-some None = refl
+and_then-some (Some s) = refl
 
-push-then : (a : Tri) (o : Stack) → and_then o (λ (s : List Tri). some (a ∷ s)) ≡ push a o
-push-then a none = refl
-push-then a (some s) = refl
+push-then : (a : Tri) (o : Stack) → and_then o (λ (s : List Tri). Some (a ∷ s)) ≡ push a o
+push-then a None = refl
+push-then a (Some s) = refl
 
 negate-push : (a : Tri) (o : Stack) → and_then (push a o) negate ≡ push (not_t a) o
-negate-push a none = refl
-negate-push a (some s) = refl
+negate-push a None = refl
+negate-push a (Some s) = refl
 
 combine-push : (f : Tri → Tri → Tri) (a b : Tri) (o : Stack) → and_then (push b (push a o)) (combine f) ≡ push (f a b) o
-combine-push f a b none = refl
-combine-push f a b (some s) = refl
+combine-push f a b None = refl
+combine-push f a b (Some s) = refl
 
 negate-has : (o : Stack) → has_operand (and_then o negate) ≡ true → has_operand o ≡ true
-negate-has none h = h
-negate-has (some []) h = h
-negate-has (some (a ∷ s)) h = refl
+negate-has None h = h
+negate-has (Some []) h = h
+negate-has (Some (a ∷ s)) h = refl
 
 combine-has : (f : Tri → Tri → Tri) (o : Stack) → has_operand (and_then o (combine f)) ≡ true → has_operand o ≡ true
-combine-has f none h = h
-combine-has f (some []) h = h
-combine-has f (some (b ∷ s)) h = refl
+combine-has f None h = h
+combine-has f (Some []) h = h
+combine-has f (Some (b ∷ s)) h = refl
 
 combine-has-left : (f : Tri → Tri → Tri) (b : Tri) (o : Stack) → has_operand (and_then (push b o) (combine f)) ≡ true → has_operand o ≡ true
-combine-has-left f b none h = h
-combine-has-left f b (some []) h = h
-combine-has-left f b (some (a ∷ s)) h = refl
+combine-has-left f b None h = h
+combine-has-left f b (Some []) h = h
+combine-has-left f b (Some (a ∷ s)) h = refl
 
 -- ---- what an operand's last node says
 
@@ -127,8 +135,8 @@ module _ (v : Term → Tri) (t : List ℕ) where
         ∙ go (stack_of v (take i t))
       where
         go : (s : Stack) → and_then s (run v (node_on t i ∷ [])) ≡ and_then s (step v (node_on t i))
-        go none = refl
-        go (some r) = and_then-some (step v (node_on t i) r)
+        go None = refl
+        go (Some r) = and_then-some (step v (node_on t i) r)
 
     by-node : {n : Node} → node_on t i ≡ n → stack_of v t ≡ and_then (stack_of v (take i t)) (step v n)
     by-node e = after ∙ ap (λ (m : Node). and_then (stack_of v (take i t)) (step v m)) e
@@ -212,37 +220,37 @@ module _ (v : Term → Tri) (t : List ℕ) where
 
 -- ---- a whole tree
 
-nodes-in : (t : List ℕ) (ns : List Node) → nodes_of t ≡ ok ns → ns ≡ nodes_in t
+nodes-in : (t : List ℕ) (ns : List Node) → nodes_of t ≡ Ok ns → ns ≡ nodes_in t
 unfolding nodes_of nodes_in
 nodes-in [] ns h = cc
 nodes-in (c ∷ []) ns h = cc
 nodes-in (c ∷ p ∷ []) ns h = cc
 nodes-in (c ∷ p ∷ q ∷ rest) ns h = go (node_of c p q) refl (nodes_of rest) refl h (λ ms e. nodes-in rest ms e)
   where
-    go : (n : Result Node) → node_of c p q ≡ n → (r : Result (List Node)) → nodes_of rest ≡ r → (n >>= λ m. r >>= λ ms. ok (m ∷ ms)) ≡ ok ns
-        → ((ms : List Node) → nodes_of rest ≡ ok ms → ms ≡ nodes_in rest) → ns ≡ node_for c p q ∷ nodes_in rest
-    go (refused x) a r b k f = cc
-    go (ok m) a (refused x) b k f = cc
-    go (ok m) a (ok ms) b k f = let i : m ∷ ms ≡ ns = cc in let j = f ms b in let l = node-only c p q m a in cc
+    go : (n : Result Node) → node_of c p q ≡ n → (r : Result (List Node)) → nodes_of rest ≡ r → (n >>= λ m. r >>= λ ms. Ok (m ∷ ms)) ≡ Ok ns
+        → ((ms : List Node) → nodes_of rest ≡ Ok ms → ms ≡ nodes_in rest) → ns ≡ node_for c p q ∷ nodes_in rest
+    go (Err x) a r b k f = cc
+    go (Ok m) a (Err x) b k f = cc
+    go (Ok m) a (Ok ms) b k f = let i : m ∷ ms ≡ ns = cc in let j = f ms b in let l = node-only c p q m a in cc
 
-module _ (v : Term → Tri) (t : List ℕ) (good : checked (read_tree t) ≡ Good) where
-  pub tree-read : read_tree t ≡ ok (nodes_in t)
+module _ (v : Term → Tri) (t : List ℕ) (good : checked (read_tree t) ≡ Ok tt) where
+  pub tree-read : read_tree t ≡ Ok (nodes_in t)
   tree-read = go (read_tree t) refl good
     where
-      go : (r : Result (List Node)) → read_tree t ≡ r → checked r ≡ Good → read_tree t ≡ ok (nodes_in t)
-      go (ok ns) e g = e ∙ ap {B = Result (List Node)} (λ (l : List Node). ok l) (nodes-in t ns (accepted t ns e).nodes)
-      go (refused c) e g = cc
+      go : (r : Result (List Node)) → read_tree t ≡ r → checked r ≡ Ok tt → read_tree t ≡ Ok (nodes_in t)
+      go (Ok ns) e g = e ∙ ap {B = Result (List Node)} (λ (l : List Node). Ok l) (nodes-in t ns (accepted t ns e).nodes)
+      go (Err c) e g = cc
 
   tree-threes : length t % 3 ≡ 0
   unfolding read_tree
   tree-threes = go (leb 3 (length t) && leb (length t) 381) (eqb (length t % 3) 0) refl tree-read
     where
-      go : (a b : Bool) → eqb (length t % 3) 0 ≡ b → (need (a && b) TreeShape >> (nodes_of t >>= λ ms. need (leaves_one ms) TreeShape >> ok ms)) ≡ ok (nodes_in t) → length t % 3 ≡ 0
+      go : (a b : Bool) → eqb (length t % 3) 0 ≡ b → (need (a && b) TreeShape >> (nodes_of t >>= λ ms. need (leaves_one ms) TreeShape >> Ok ms)) ≡ Ok (nodes_in t) → length t % 3 ≡ 0
       go a true e k = eqb-true (length t % 3) 0 e
       go true false e k = cc
       go false false e k = cc
 
-  tree-one : stack_of v t ≡ some (tree_value v t ∷ [])
+  tree-one : stack_of v t ≡ Some (tree_value v t ∷ [])
   unfolding tree_value
   tree-one = rw tree-read (run-one v (nodes_in t) (accepted t (nodes_in t) tree-read).one)
 
@@ -252,6 +260,6 @@ module _ (v : Term → Tri) (t : List ℕ) (good : checked (read_tree t) ≡ Goo
   pub tree-value : (r : Part) → Evaluated v t r → r.value ≡ tree_value v t
   tree-value r e = go (stack_of v (take r.start t)) (sym e.top ∙ tree-one)
     where
-      go : (s : Stack) → push r.value s ≡ some (tree_value v t ∷ []) → r.value ≡ tree_value v t
-      go none k = cc
-      go (some l) k = cc
+      go : (s : Stack) → push r.value s ≡ Some (tree_value v t ∷ []) → r.value ≡ tree_value v t
+      go None k = cc
+      go (Some l) k = cc

@@ -1,14 +1,14 @@
 -- The lowest kind that a tree asks for, and that the tree is undecided where only lesser kinds are known. Assumes nothing.
+use Rattle.std.specs.Prelude.{None, Some, Ok}
 use Prim.Native.Nat.{ℕ, zero, suc, ◌+◌, ◌≤◌, ◌<◌}
 use mathlib.Core.Path.{◌≡◌, refl, sym, ◌∙◌}
 use mathlib.Core.Bool.{Bool, true, false, cond, false≢true, and-false}
 use mathlib.Core.List.{List, [], ◌∷◌}
-use mathlib.Core.Option.{none, some}
 use native.Mathlib.Omega.{arith}
 use lib.ListN.{length, drop, get_or, drop_of_length-le, get_or-eq_default}
 use lib.Seq.{drop-cons, drop-drop}
 use lib.Dec.{leb, ltb, eqb}
-use borrow.Author.Tests.{lt-leb, lt-ltb, le-ltb, ltb-true, ltb-false, eqb-true}
+use borrow.Author.Tests.{lt-leb, ltb-true, ltb-false, eqb-true}
 use Rattle.machine.specs.Lists.{and_then, all}
 use Rattle.machine.specs.Kleene.{apply_t}
 use Rattle.machine.specs.Query.{codes, Stack, step, run, the_one, read_tree, tree_value, term_value, window}
@@ -24,7 +24,6 @@ use Rattle.machine.specs.declared.RecordNumbers.{RecordNumbers}
 use Rattle.laws.specs.Lists.{All}
 use Rattle.terms.specs.Levels.{term_value_at}
 use Rattle.search.specs.Nodes.{node_for, nodes_in, checked, kinds, kind_for, lesser, topmost_from}
-use Rattle.search.specs.declared.CheckedTree.TheVariants.{Good}
 use Rattle.terms.proofs.Terms.{case_of}
 use Rattle.search.proofs.Nodes.{each_in}
 use Rattle.search.proofs.Postfix.{tree-read}
@@ -33,13 +32,6 @@ use Rattle.search.proofs.Postfix.{tree-read}
 
 pub no_kind : (c : ℕ) → 29 ≤ c → 0 ≡ kind_for c
 no_kind c h = sym (get_or-eq_default kinds 0 h)
-
-module _ (a b : ℕ) where
-  pub lesser-first : a < b → a ≡ lesser a b
-  lesser-first h = rw (lt-ltb a b h)
-
-  pub lesser-other : b ≤ a → b ≡ lesser a b
-  lesser-other h = rw (le-ltb a b h)
 
 topmost-cons : (r c : ℕ) (l : List ℕ) → topmost_from r (c ∷ l) ≡ topmost_from (lesser (kind_for c) r) (drop 2 l)
 unfolding topmost_from
@@ -102,8 +94,8 @@ is_undecided True = false
 is_undecided Undecided = true
 
 abbrev calm : Stack → Bool
-calm none = true
-calm (some s) = all is_undecided s
+calm None = true
+calm (Some s) = all is_undecided s
 
 calm-negate : (v : Term → Tri) (s : List Tri) → all is_undecided s ≡ true → calm (step v Not s) ≡ true
 unfolding is_undecided
@@ -130,12 +122,12 @@ calm-combine v o (Undecided ∷ Undecided ∷ s) h = rw (calm-op o) h
 
 calm-one : (s : Stack) → calm s ≡ true → the_one s ≡ Undecided
 unfolding is_undecided
-calm-one none h = refl
-calm-one (some []) h = refl
-calm-one (some (False ∷ [])) h = absurd (false≢true h)
-calm-one (some (True ∷ [])) h = absurd (false≢true h)
-calm-one (some (Undecided ∷ [])) h = refl
-calm-one (some (a ∷ b ∷ s)) h = refl
+calm-one None h = refl
+calm-one (Some []) h = refl
+calm-one (Some (False ∷ [])) h = absurd (false≢true h)
+calm-one (Some (True ∷ [])) h = absurd (false≢true h)
+calm-one (Some (Undecided ∷ [])) h = refl
+calm-one (Some (a ∷ b ∷ s)) h = refl
 
 module _ (v : Term → Tri) (k : ℕ) (unknown : (x : Term) → k < kind_of x → v x ≡ Undecided) where
   calm-step : (m : Node) → k < node_kind m → (s : List Tri) → all is_undecided s ≡ true → calm (step v m s) ≡ true
@@ -151,8 +143,8 @@ module _ (v : Term → Tri) (k : ℕ) (unknown : (x : Term) → k < kind_of x �
   calm_run (n ∷ ns) a s h = go (step v n s) (calm-step n a.0 s h) (calm_run ns a.1)
     where
       go : (o : Stack) → calm o ≡ true → ((s : List Tri) → all is_undecided s ≡ true → calm (run v ns s) ≡ true) → calm (and_then o (run v ns)) ≡ true
-      go none e f = refl
-      go (some s) e f = f s e
+      go None e f = refl
+      go (Some s) e f = f s e
 
 -- ---- a whole tree
 
@@ -189,7 +181,7 @@ topmost-below k r (c ∷ p ∷ q ∷ rest) h =
     let s = lesser-both k (kind_for c) r b.first in
     record { first = s.1; nodes = (code-kind c p q k s.0, b.nodes) }
 
-pub below-topmost : (w : List ℕ) (at : RecordNumbers) (low k : ℕ) (residues atoms t : List ℕ) → checked (read_tree t) ≡ Good → k < topmost_from 5 t
+pub below-topmost : (w : List ℕ) (at : RecordNumbers) (low k : ℕ) (residues atoms t : List ℕ) → checked (read_tree t) ≡ Ok tt → k < topmost_from 5 t
     → Undecided ≡ tree_value (term_value_at w at low k residues atoms) t
 unfolding tree_value is_undecided
 below-topmost w at low k residues atoms t good h =

@@ -1,6 +1,5 @@
 -- The last operand among a tree's first nodes, each term having the value that v gives it. Assumes nothing.
-use Rattle.std.specs.Prelude.{ℕ, ◌+◌, ◌≤◌, ◌%◌, ◌≡◌, Bool, true, false, List, [], ◌∷◌, length, take}
-use Rattle.std.proofs.Math.Option.{none, some}
+use Rattle.std.specs.Prelude.{ℕ, ◌+◌, ◌≤◌, ◌%◌, ◌≡◌, Bool, true, false, List, [], ◌∷◌, length, take, None, Some}
 use Rattle.machine.specs.Query.{Stack, run}
 use Rattle.machine.specs.declared.Tri.{Tri}
 use Rattle.machine.specs.declared.Term.{Term}
@@ -8,13 +7,13 @@ use Rattle.search.specs.Nodes.{nodes_in}
 use Rattle.search.specs.declared.Part.{Part}
 
 abbrev pub push : Tri → Stack → Stack
-push a none = none
-push a (some s) = some (a ∷ s)
+push a None = None
+push a (Some s) = Some (a ∷ s)
 
 abbrev pub has_operand : Stack → Bool
-has_operand none = false
-has_operand (some []) = false
-has_operand (some (a ∷ s)) = true
+has_operand None = false
+has_operand (Some []) = false
+has_operand (Some (a ∷ s)) = true
 
 abbrev pub stack_of : (Term → Tri) → List ℕ → Stack
 stack_of v t = run v (nodes_in t) []

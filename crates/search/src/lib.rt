@@ -1,7 +1,7 @@
 // Queries, after pdbtbx's search.rs (document 01, "Trees and find"): a tree's nodes, its check, and its value at a place.
 #![tactic(auto)]
 
-ghost use Rattle.std.specs.Prelude.{◌≡◌, cond, ℕ, ◌%◌, ◌≤◌, ◌<◌, length};
+ghost use Rattle.std.specs.Prelude.{◌≡◌, cond, Some, None, Ok, ℕ, ◌%◌, ◌≤◌, ◌<◌, length};
 ghost use Rattle.machine.specs.Kleene as Kleene;
 ghost use Rattle.machine.specs.Query as Query;
 ghost use Rattle.machine.specs.declared.Node.TheVariants.{Single};
@@ -10,52 +10,41 @@ ghost use Rattle.terms.specs.Levels.{term_value_at, Inside};
 ghost use Rattle.search.specs.Nodes as Nodes;
 ghost use Rattle.search.specs.Nodes.{kind_for, topmost_from, node_for, sort_for, good_node, left_by, deeper_by, depth_of, maybe_depth, checked};
 ghost use Rattle.search.specs.Value.{Operand, Evaluated};
-ghost use Rattle.search.specs.declared.MaybeDepth.TheVariants as MaybeDepth;
-ghost use Rattle.search.specs.declared.CheckedTree.TheVariants.{Good};
 
-use elements::{Element, MaybeElement};
+use elements::Element;
 use machine::{Ops, Record, RecordNumbers, Refusal, Term, Tri};
-
-#[derive(Clone, Copy)]
-pub enum CheckedTree {
-    Good,
-    Refused(Refusal),
-}
 
 // ---- nodes
 
-// What sort of node a code has, or that it has none.
+// What sort of node a code has.
 #[derive(Clone, Copy)]
 enum Sort {
     Single,
     Binary(Ops),
     Not,
     Known(bool),
-    Refused,
 }
 
 // "Node codes are sorted into terms, operators and constants by range"; no other code has a node.
-fn sort_of(code: u64) -> Sort
+#[tactic(auto, unfolding(crate::specs::Nodes::sort_for, machine::specs::Query::codes))]
+fn sort_of(code: u64) -> Option<Sort>
     ensures { (p q : ℕ) → result ≡ sort_for code p q }
 {
     match code {
-        1..=22 => Sort::Single,
-        23..=25 => {
-            if code == 23 {
-                Sort::Binary(Ops::And)
-            } else if code == 24 {
-                Sort::Binary(Ops::Or)
-            } else {
-                Sort::Binary(Ops::Xor)
-            }
-        }
-        26 => Sort::Not,
-        27..=28 => Sort::Known(code == 28),
-        _ => Sort::Refused,
+        1..=22 => Some(Sort::Single),
+        23..=25 => match code {
+            23 => Some(Sort::Binary(Ops::And)),
+            24 => Some(Sort::Binary(Ops::Or)),
+            _ => Some(Sort::Binary(Ops::Xor)),
+        },
+        26 => Some(Sort::Not),
+        27..=28 => Some(Sort::Known(code == 28)),
+        _ => None,
     }
 }
 
 // The term of a code from 1 to 22.
+#[tactic(auto, unfolding(crate::specs::Nodes::node_for, machine::specs::Query::codes))]
 fn term_of(code: u64, p: u64, q: u64) -> Term
     requires { (1 ≤ code) × (code ≤ 22) }
     ensures { Single result ≡ node_for code p q }
@@ -87,6 +76,7 @@ fn term_of(code: u64, p: u64, q: u64) -> Term
 }
 
 // "unused ones are 0", texts are packed, elements are 1..118
+#[tactic(auto, unfolding(crate::specs::Nodes::good_node, machine::specs::Query::codes))]
 fn good_parameters(code: u64, p: u64, q: u64) -> bool
     requires { (1 ≤ code) × (code ≤ 28) }
     ensures { result ≡ good_node code p q }
@@ -97,101 +87,77 @@ fn good_parameters(code: u64, p: u64, q: u64) -> bool
         3 | 7 | 9 | 10 | 14 => stored::packed_text(p) & (q == 0),
         4 | 11 => stored::packed_text(p) & stored::packed_text(q),
         8 => stored::packed_text(q),
-        15 => {
-            let found = Element::from_number(p);
-            match found {
-                MaybeElement::Is(_) => q == 0,
-                MaybeElement::NotOne => false,
-            }
-        }
+        15 => Element::from_number(p).is_some() & (q == 0),
         _ => (p == 0) & (q == 0),
     }
 }
 
 // ---- the check of a tree
 
-#[derive(Clone, Copy)]
-enum MaybeDepth {
-    Is(usize),
-    Refused,
-}
-
 // One more than the number of operands after a node, or 0 where an operand is missing: `least` is one more than it takes.
-fn left_by(least: usize, d: usize) -> MaybeDepth
+fn left_by(least: usize, d: usize) -> usize
     requires { d < 1000 }
-    ensures { result ≡ MaybeDepth.Is (left_by least d) }
+    ensures { result ≡ left_by least d }
 {
-    if d < least {
-        MaybeDepth::Is(0)
-    } else {
-        MaybeDepth::Is(d + 2 - least)
-    }
+    if d < least { 0 } else { d + 2 - least }
 }
 
 // The same for a code that has a node, or the refusal of its parameters.
-fn deeper(least: usize, code: u64, p: u64, q: u64, d: usize) -> MaybeDepth
+fn deeper(least: usize, code: u64, p: u64, q: u64, d: usize) -> Option<usize>
     requires { (1 ≤ code) × (code ≤ 28) × (d < 1000) }
-    ensures { result ≡ cond (good_node code p q) (MaybeDepth.Is (left_by least d)) MaybeDepth.Refused }
+    ensures { result ≡ cond (good_node code p q) (Some (left_by least d)) None }
 {
     if good_parameters(code, p, q) {
-        return left_by(least, d);
+        Some(left_by(least, d))
+    } else {
+        None
     }
-    MaybeDepth::Refused
 }
 
 // The same for any code: a term and a constant take no operand, an operator two, Not one.
-fn deeper_by(code: u64, p: u64, q: u64, d: usize) -> MaybeDepth
+fn deeper_by(code: u64, p: u64, q: u64, d: usize) -> Option<usize>
     requires { d < 1000 }
     ensures { result ≡ maybe_depth (deeper_by code p q d) }
 {
-    let sort = sort_of(code);
-    match sort {
-        Sort::Single => deeper(1, code, p, q, d),
+    match sort_of(code)? {
+        Sort::Single | Sort::Known(_) => deeper(1, code, p, q, d),
         Sort::Binary(_) => deeper(3, code, p, q, d),
         Sort::Not => deeper(2, code, p, q, d),
-        Sort::Known(_) => deeper(1, code, p, q, d),
-        Sort::Refused => MaybeDepth::Refused,
     }
 }
 
-fn depth_of(tree: &[u64]) -> MaybeDepth
+fn depth_of(tree: &[u64]) -> Option<usize>
     requires { (length tree.now ≤ 381) × (length tree.now % 3 ≡ 0) }
     ensures { result ≡ maybe_depth (depth_of 1 tree.now) }
 {
     let mut d: usize = 1;
     let mut i: usize = 0;
     while i < tree.len() {
-        let next = deeper_by(tree[i], tree[i + 1], tree[i + 2], d);
-        let MaybeDepth::Is(e) = next else {
-            return MaybeDepth::Refused;
-        };
-        d = e;
+        d = deeper_by(tree[i], tree[i + 1], tree[i + 2], d)?;
         i += 3;
     }
-    MaybeDepth::Is(d)
+    Some(d)
 }
 
 // In the order length 3, nodes 4, shape 3.
-pub fn check_tree(tree: &[u64]) -> CheckedTree
+pub fn check_tree(tree: &[u64]) -> Result<(), Refusal>
     ensures { result ≡ checked (Query.read_tree tree.now) }
 {
     let n = tree.len();
     if n < 3 {
-        return CheckedTree::Refused(Refusal::TreeShape);
+        return Err(Refusal::TreeShape);
     }
     if 381 < n {
-        return CheckedTree::Refused(Refusal::TreeShape);
+        return Err(Refusal::TreeShape);
     }
     if n % 3 != 0 {
-        return CheckedTree::Refused(Refusal::TreeShape);
+        return Err(Refusal::TreeShape);
     }
-    let MaybeDepth::Is(d) = depth_of(tree) else {
-        return CheckedTree::Refused(Refusal::TreeNode);
-    };
+    let d = depth_of(tree).ok_or(Refusal::TreeNode)?;
     if d == 2 {
-        CheckedTree::Good
+        Ok(())
     } else {
-        CheckedTree::Refused(Refusal::TreeShape)
+        Err(Refusal::TreeShape)
     }
 }
 
@@ -338,21 +304,20 @@ fn evaluate(
 {
     let i = tree.len() - 3;
     let code = tree[i];
-    let sort = sort_of(code);
-    match sort {
-        Sort::Single => {
+    match sort_of(code) {
+        Some(Sort::Single) => {
             let t = term_of(code, tree[i + 1], tree[i + 2]);
             let v = terms::term_value(t, words, numbers(place), low, high, residues, atoms);
             Part { value: v, start: i }
         }
-        Sort::Known(b) => constant(b, i),
+        Some(Sort::Known(b)) => constant(b, i),
         // A tree that was checked has no such node, but each arm of a match has a value.
-        Sort::Refused => constant(false, i),
-        Sort::Not => {
+        None => constant(false, i),
+        Some(Sort::Not) => {
             let a = evaluate(&tree[..i], anew(words), place, low, high, residues, atoms);
             negation(a)
         }
-        Sort::Binary(o) => {
+        Some(Sort::Binary(o)) => {
             let b = evaluate(&tree[..i], anew(words), place, low, high, residues, atoms);
             let m = b.start;
             let a = evaluate(&tree[..m], anew(words), place, low, high, residues, atoms);
@@ -371,7 +336,7 @@ pub fn value(
     residues: &[u64],
     atoms: &[u64],
 ) -> Tri
-    requires { (checked (Query.read_tree tree.now) ≡ Good) × Inside words.now (five_numbers place.now) }
+    requires { (checked (Query.read_tree tree.now) ≡ Ok tt) × Inside words.now (five_numbers place.now) }
     ensures { result ≡ Query.tree_value
         (term_value_at words.now (five_numbers place.now) low high residues.now atoms.now) tree.now }
 {

@@ -1,9 +1,9 @@
 -- What the loops go by: records among the words, below a kind, and those of branches. Assumes nothing.
+use Rattle.std.specs.Prelude.{None, Option, Some, option_map}
 use Prim.Native.Nat.{ℕ, zero, suc, ◌+◌, ◌-◌, ◌*◌, ◌≤◌, ◌<◌}
 use mathlib.Core.Path.{◌≡◌, refl, ap, ◌∙◌}
 use mathlib.Core.Bool.{Bool, true, false, cond}
 use mathlib.Core.List.{List, [], ◌∷◌, ◌++◌, append_assoc, append-nil}
-use mathlib.Core.Option.{Option, none, some, map}
 use native.Mathlib.Nat.{add-zero, zero-add, add-suc, suc-add}
 use native.Mathlib.Numerals.{add-one}
 use native.Mathlib.Omega.{arith}
@@ -87,9 +87,9 @@ end-within w from end h b = omega (arith, b.order, descendants-within h (records
 -- the i-th record of a kind, by the kind of the first record
 module _ {A : Type 0} (h : ℕ) (f : ℕ → List Words → Option A) where
   shift : (n : ℕ) (r : Words) (rs : List Words) (c : Option ℕ)
-      → and_then (map suc c) (λ o. f (n + o) (drop (suc o) (r ∷ rs))) ≡ and_then c (λ o. f (suc n + o) (drop (suc o) rs))
-  shift n r rs none = refl
-  shift n r rs (some o) = rw (add-suc, suc-add)
+      → and_then (option_map suc c) (λ o. f (n + o) (drop (suc o) (r ∷ rs))) ≡ and_then c (λ o. f (suc n + o) (drop (suc o) rs))
+  shift n r rs None = refl
+  shift n r rs (Some o) = rw (add-suc, suc-add)
 
   pub child-pass : (i n : ℕ) (r : Words) (rs : List Words) → h < kind r → at_child h i f n (r ∷ rs) ≡ at_child h i f (suc n) rs
   unfolding child
@@ -104,12 +104,12 @@ module _ {A : Type 0} (h : ℕ) (f : ℕ → List Words → Option A) where
   unfolding child
   child-here n r rs e = rw (le-ltb (kind r) h (omega arith), eq-eqb (kind r) h e, add-zero)
 
-  pub child-low : (i n : ℕ) (r : Words) (rs : List Words) → kind r < h → at_child h i f n (r ∷ rs) ≡ none
+  pub child-low : (i n : ℕ) (r : Words) (rs : List Words) → kind r < h → at_child h i f n (r ∷ rs) ≡ None
   unfolding child
   child-low zero n r rs l = rw (lt-ltb (kind r) h l)
   child-low (suc i) n r rs l = rw (lt-ltb (kind r) h l)
 
-  pub child-nil : (i n : ℕ) → at_child h i f n [] ≡ none
+  pub child-nil : (i n : ℕ) → at_child h i f n [] ≡ None
   unfolding child
   child-nil i n = refl
 
@@ -117,27 +117,27 @@ module _ {A : Type 0} (h : ℕ) (f : ℕ → List Words → Option A) where
   child-over i n [] rest a = rw add-zero
   child-over i n (r ∷ b) rest a = child-pass i n r (b ++ rest) a.0 ∙ rw (child-over i (suc n) b rest a.1, add-suc, suc-add)
 
-map-within : (c : Option ℕ) (n : ℕ) → ((o : ℕ) → c ≡ some o → o < n) → (o : ℕ) → map suc c ≡ some o → o < suc n
-map-within none n f o e = let z : ◌≡◌ {A = ℕ} 0 1 = cc in absurd (omega arith)
-map-within (some x) n f o e = let q : suc x ≡ o = cc in omega (arith, f x refl)
+map-within : (c : Option ℕ) (n : ℕ) → ((o : ℕ) → c ≡ Some o → o < n) → (o : ℕ) → option_map suc c ≡ Some o → o < suc n
+map-within None n f o e = let z : ◌≡◌ {A = ℕ} 0 1 = cc in absurd (omega arith)
+map-within (Some x) n f o e = let q : suc x ≡ o = cc in omega (arith, f x refl)
 
-child-within : (h i : ℕ) (rs : List Words) (o : ℕ) → child h i rs ≡ some o → o < length rs
+child-within : (h i : ℕ) (rs : List Words) (o : ℕ) → child h i rs ≡ Some o → o < length rs
 unfolding child
 child-within h i [] o e = let z : ◌≡◌ {A = ℕ} 0 1 = cc in absurd (omega arith)
 child-within h zero (r ∷ rs) o e = go (ltb (kind r) h) (eqb (kind r) h) (child-within h zero rs) e
   where
-    go : (a b : Bool) → ((x : ℕ) → child h zero rs ≡ some x → x < length rs) → cond a none (cond b (some 0) (map suc (child h zero rs))) ≡ some o → o < suc (length rs)
+    go : (a b : Bool) → ((x : ℕ) → child h zero rs ≡ Some x → x < length rs) → cond a None (cond b (Some 0) (option_map suc (child h zero rs))) ≡ Some o → o < suc (length rs)
     go true b f q = let z : ◌≡◌ {A = ℕ} 0 1 = cc in absurd (omega arith)
     go false true f q = let y : 0 ≡ o = cc in omega arith
     go false false f q = map-within (child h zero rs) (length rs) f o q
 child-within h (suc i) (r ∷ rs) o e = go (ltb (kind r) h) (eqb (kind r) h) (child-within h i rs) (child-within h (suc i) rs) e
   where
-    go : (a b : Bool) → ((x : ℕ) → child h i rs ≡ some x → x < length rs) → ((x : ℕ) → child h (suc i) rs ≡ some x → x < length rs) → cond a none (map suc (cond b (child h i rs) (child h (suc i) rs))) ≡ some o → o < suc (length rs)
+    go : (a b : Bool) → ((x : ℕ) → child h i rs ≡ Some x → x < length rs) → ((x : ℕ) → child h (suc i) rs ≡ Some x → x < length rs) → cond a None (option_map suc (cond b (child h i rs) (child h (suc i) rs))) ≡ Some o → o < suc (length rs)
     go true b f g q = let z : ◌≡◌ {A = ℕ} 0 1 = cc in absurd (omega arith)
     go false true f g q = map-within (child h i rs) (length rs) f o q
     go false false f g q = map-within (child h (suc i) rs) (length rs) g o q
 
-pub child-below : (w : List ℕ) (h i from end o : ℕ) → Within from end w → child h i (records_in from end w) ≡ some o → from + o < end
+pub child-below : (w : List ℕ) (h i from end o : ℕ) → Within from end w → child h i (records_in from end w) ≡ Some o → from + o < end
 child-below w h i from end o b e = omega (arith, b.order, child-within h i (records_in from end w) o e, length-drop from (chunks end w), chunks-length end w)
 
 -- ---- the records of branches
@@ -164,7 +164,7 @@ root-kind g k l t = omega (arith, words-kind k (omega arith) (root k t))
 -- where f and f' agree on a branch of level k, so do the i-th record of its kind and the i-th branch
 module _ {A : Type 0} (g k : ℕ) (level : g + k ≡ 4) (f : ℕ → List Words → Option A) (f' : ℕ × Branch k → Option A)
     (agree : (n : ℕ) (t : Branch k) (rest : List Words) → Ends (suc g) rest → f n (under k t ++ rest) ≡ f' (n, t)) where
-  at-end : (i n : ℕ) (rest : List Words) → Ends g rest → at_child (suc g) i f n rest ≡ none
+  at-end : (i n : ℕ) (rest : List Words) → Ends g rest → at_child (suc g) i f n rest ≡ None
   at-end i n [] e = child-nil (suc g) f i n
   at-end i n (r ∷ rest) e = child-low (suc g) f i n r rest (omega arith)
 
@@ -192,11 +192,11 @@ descendants-under g k l m t after e =
 pub child-span : (g k : ℕ) → g + k ≡ 4 → (i n : ℕ) (ts : List (Branch k)) (rest : List Words) → Ends g rest → child_span (suc g) i n (concat_map (flat k) ts ++ rest) ≡ span_at 0 k (i ∷ []) n ts
 unfolding span_at
 child-span g k l i n ts rest e =
-    child-branch g k l (to_end (suc g)) (λ t. some (t.0, t.0 + size k t.1)) (λ m t after a. ap (λ (x : ℕ). some (m, x)) (descendants-under g k l m t after a)) i n ts rest e
+    child-branch g k l (to_end (suc g)) (λ t. Some (t.0, t.0 + size k t.1)) (λ m t after a. ap (λ (x : ℕ). Some (m, x)) (descendants-under g k l m t after a)) i n ts rest e
 
 -- the span that a position has among the records, below one of kind g: with no index left it is that of the record before them
 unfoldable pub span_in : ℕ → List ℕ → ℕ → List Words → Option (ℕ × ℕ)
-span_in g [] n rs = some (n - 1, n + descendants g rs)
+span_in g [] n rs = Some (n - 1, n + descendants g rs)
 span_in g (i ∷ is) n rs = at_child (suc g) i (λ m after. span_in (suc g) is (suc m) after) n rs
 
 pub span-among : (d j g : ℕ) (pos : List ℕ) (n : ℕ) (ts : List (Branch (up d j))) (rest : List Words) → g + up d j ≡ 4 → length pos ≡ suc d → Ends g rest
@@ -204,9 +204,9 @@ pub span-among : (d j g : ℕ) (pos : List ℕ) (n : ℕ) (ts : List (Branch (up
 unfolding span_in span_at
 span-among d j g [] n ts rest level len e = absurd (omega arith)
 span-among zero j g (i ∷ (x ∷ is)) n ts rest level len e = absurd (omega arith)
-span-among zero j g (i ∷ []) n ts rest level len e = child-branch g j level (λ m after. span_in (suc g) [] (suc m) after) (λ t. some (t.0, t.0 + size j t.1)) agree i n ts rest e
+span-among zero j g (i ∷ []) n ts rest level len e = child-branch g j level (λ m after. span_in (suc g) [] (suc m) after) (λ t. Some (t.0, t.0 + size j t.1)) agree i n ts rest e
   where
-    agree : (m : ℕ) (t : Branch j) (after : List Words) → Ends (suc g) after → span_in (suc g) [] (suc m) (under j t ++ after) ≡ some (m, m + size j t)
+    agree : (m : ℕ) (t : Branch j) (after : List Words) → Ends (suc g) after → span_in (suc g) [] (suc m) (under j t ++ after) ≡ Some (m, m + size j t)
     agree m t after e = let p : suc m - 1 ≡ m = omega arith in rw (p, descendants-under g j level m t after e)
 span-among (suc d) j g (i ∷ is) n ts rest level len e =
     child-branch g (suc (up d j)) level (λ m after. span_in (suc g) is (suc m) after) (λ t. span_at d j is (suc t.0) t.1.1)
@@ -225,8 +225,8 @@ span-machine (i ∷ (c ∷ (r ∷ (f ∷ (a ∷ (x ∷ is)))))) m lo hi = absurd
 
 -- the records below a position, over branches of level k that stand below g records
 unfoldable pub part_at : (k g : ℕ) → List ℕ → ℕ → List ℕ → List (Branch k) → Option Part
-part_at k g path n [] ts = some (record { from = n; end = n + length (concat_map (flat k) ts); depth = g; path = five_numbers path })
-part_at zero g path n (i ∷ is) ts = none
+part_at k g path n [] ts = Some (record { from = n; end = n + length (concat_map (flat k) ts); depth = g; path = five_numbers path })
+part_at zero g path n (i ∷ is) ts = None
 part_at (suc k) g path n (i ∷ is) ts = and_then (nth i (numbered (suc k) n ts)) (λ t. part_at k (suc g) (set path g t.0) (suc t.0) is t.1.1)
 
 pub part-among : (k g : ℕ) → g + k ≡ 4 → (path : List ℕ) (n : ℕ) (is : List ℕ) → length is ≤ k → (ts : List (Branch k)) (rest : List Words) → Ends g rest

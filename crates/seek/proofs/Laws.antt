@@ -1,9 +1,9 @@
 -- Laws of where records stand in a good store, for the crates that ask. Assumes nothing.
+use Rattle.std.specs.Prelude.{None, Ok, Option, Some}
 use Prim.Native.Nat.{ℕ, zero, suc, ◌+◌, ◌/◌, ◌≤◌, ◌<◌}
 use mathlib.Core.Path.{◌≡◌, refl, sym, ap, ◌∙◌}
 use mathlib.Core.Bool.{false}
 use mathlib.Core.List.{List, [], ◌∷◌, ◌++◌, append_assoc}
-use mathlib.Core.Option.{Option, none, some}
 use native.Mathlib.Nat.{zero-add}
 use native.Mathlib.Omega.{arith}
 use lib.ListN.{length, length-append}
@@ -11,7 +11,6 @@ use lib.Seq.{take_at, drop_at}
 use lib.Dec.{eqb}
 use borrow.Author.Tests.{ne_eqb}
 use Rattle.machine.specs.Lists.{concat_map, nth, and_then}
-use Rattle.machine.specs.Answer.{ok}
 use Rattle.machine.specs.Record.{Words, words, kind}
 use Rattle.machine.specs.Store.{Branch, Machine, flat, records, atom_count, stored, end, group, read_store}
 use Rattle.machine.specs.Find.{size, numbered}
@@ -21,14 +20,13 @@ use Rattle.laws.specs.Grouped.{words-kind, group-flats, chunks-length}
 use Rattle.laws.specs.Layout.{records-read, read-parts}
 use Rattle.laws.specs.Numbers.{nth-numbered, no-numbered}
 use Rattle.laws.specs.Places.{around, Spot}
-use Rattle.seek.specs.Seek.{held, Good, Within, records_in, is_atom, atom_records, span_at, span_of}
+use Rattle.seek.specs.Seek.{held, Good, Within, records_in, is_atom, atom_records, span_at}
 use Rattle.seek.proofs.Below.{chunks-take, flat-root}
-use Rattle.seek.specs.declared.Span as Span
 
 -- ---- a good store
 
 -- a store that is read holds what it is read to, and has as many records as its trailer says
-module _ (w : List ℕ) (m : Machine) (h : read_store w ≡ ok m) where
+module _ (w : List ℕ) (m : Machine) (h : read_store w ≡ Ok m) where
   pub held-is : held w ≡ m
   held-is = ap (group 4) (sym (records-read w m h)) ∙ group-flats 4 (omega arith) m
 
@@ -46,18 +44,10 @@ pub spot-length : (d j : ℕ) (pos : List ℕ) (ts : List (Branch (up d j))) (t 
 spot-length d j pos ts t s =
     ap length s.was ∙ length-append s.pre (flat j t ++ s.post) ∙ ap (λ (z : ℕ). length s.pre + z) (length-append (flat j t) s.post)
 
--- an answer tells its span
-pub at-span : (o : Option (ℕ × ℕ)) (start stop : ℕ) → span_of o ≡ Span.TheVariants.At start stop → o ≡ some (start, stop)
-at-span none start stop e = let z : ◌≡◌ {A = ℕ} 0 1 = cc in absurd (omega arith)
-at-span (some s) start stop e =
-    let x : s.0 ≡ start = cc in
-    let y : s.1 ≡ stop = cc in
-    λ i. some (x i, y i)
-
 -- the branch at a position: its records among all, and the numbers from start up to stop that they have
 pub record Stands (d j : ℕ) (pos : List ℕ) (n : ℕ) (ts : List (Branch (up d j))) (start stop : ℕ) : Type 0 where
   pub branch : Branch j
-  pub there : branch_at d j pos ts ≡ some branch
+  pub there : branch_at d j pos ts ≡ Some branch
   pub spot : Spot d j pos ts branch
   pub first : start ≡ n + length spot.pre
   pub last : stop ≡ start + size j branch
@@ -65,7 +55,7 @@ pub record Stands (d j : ℕ) (pos : List ℕ) (n : ℕ) (ts : List (Branch (up 
 -- where it is found, its span is that of its records
 pub record Stood (d j : ℕ) (pos : List ℕ) (n : ℕ) (ts : List (Branch (up d j))) (t : Branch j) : Type 0 where
   pub spot : Spot d j pos ts t
-  pub span : span_at d j pos n ts ≡ some (n + length spot.pre, n + length spot.pre + size j t)
+  pub span : span_at d j pos n ts ≡ Some (n + length spot.pre, n + length spot.pre + size j t)
 
 -- the records around one branch's child
 flats-below : (k : ℕ) (before after : List (Branch (suc k))) (u : Branch (suc k)) (ts : List (Branch (suc k))) (pre mid post : List Words)
@@ -76,11 +66,11 @@ flats-below k before after u ts pre mid post e f = rw (e, concat_map-append (fla
 
 -- a child's span is that of the whole position
 span-down : (d j i : ℕ) (is : List ℕ) (n : ℕ) (ts : List (Branch (suc (up d j)))) (u : ℕ × Branch (suc (up d j))) (a b c : ℕ)
-    → nth i (numbered (suc (up d j)) n ts) ≡ some u → span_at d j is (suc u.0) u.1.1 ≡ some (a, a + c) → a ≡ b → span_at (suc d) j (i ∷ is) n ts ≡ some (b, b + c)
+    → nth i (numbered (suc (up d j)) n ts) ≡ Some u → span_at d j is (suc u.0) u.1.1 ≡ Some (a, a + c) → a ≡ b → span_at (suc d) j (i ∷ is) n ts ≡ Some (b, b + c)
 unfolding span_at
 span-down d j i is n ts u a b c e f q = rw (e, f, q)
 
-pub span-some : (d j : ℕ) (pos : List ℕ) (n : ℕ) (ts : List (Branch (up d j))) (t : Branch j) → branch_at d j pos ts ≡ some t → Stood d j pos n ts t
+pub span-some : (d j : ℕ) (pos : List ℕ) (n : ℕ) (ts : List (Branch (up d j))) (t : Branch j) → branch_at d j pos ts ≡ Some t → Stood d j pos n ts t
 unfolding branch_at replace_at span_at flat
 span-some d j [] n ts t e = let z : ◌≡◌ {A = ℕ} 0 1 = cc in absurd (omega arith)
 span-some zero j (i ∷ is) n ts t e =
@@ -114,33 +104,33 @@ span-some (suc d) j (i ∷ is) n ts t e =
     }
 
 -- "5 no such position" is where there is no span
-pub span_none : (d j : ℕ) (pos : List ℕ) (n : ℕ) (ts : List (Branch (up d j))) → branch_at d j pos ts ≡ none → span_at d j pos n ts ≡ none
+pub span_none : (d j : ℕ) (pos : List ℕ) (n : ℕ) (ts : List (Branch (up d j))) → branch_at d j pos ts ≡ None → span_at d j pos n ts ≡ None
 unfolding branch_at span_at
 span_none d j [] n ts e = refl
 span_none zero j (i ∷ is) n ts e = rw (no-numbered j i n ts e)
 span_none (suc d) j (i ∷ is) n ts e = go (λ m us. span_none d j is m us) (nth i ts) refl e
   where
-    go : ((m : ℕ) (us : List (Branch (up d j))) → branch_at d j is us ≡ none → span_at d j is m us ≡ none)
-        → (o : Option (Branch (suc (up d j)))) → nth i ts ≡ o → and_then o (λ t. branch_at d j is t.1) ≡ none
-        → and_then (nth i (numbered (suc (up d j)) n ts)) (λ t. span_at d j is (suc t.0) t.1.1) ≡ none
-    go below none q p = rw (no-numbered (suc (up d j)) i n ts q)
-    go below (some t) q p = rw (nth-numbered (suc (up d j)) i n ts t q) (below _ t.1 p)
+    go : ((m : ℕ) (us : List (Branch (up d j))) → branch_at d j is us ≡ None → span_at d j is m us ≡ None)
+        → (o : Option (Branch (suc (up d j)))) → nth i ts ≡ o → and_then o (λ t. branch_at d j is t.1) ≡ None
+        → and_then (nth i (numbered (suc (up d j)) n ts)) (λ t. span_at d j is (suc t.0) t.1.1) ≡ None
+    go below None q p = rw (no-numbered (suc (up d j)) i n ts q)
+    go below (Some t) q p = rw (nth-numbered (suc (up d j)) i n ts t q) (below _ t.1 p)
 
 -- what the answers tell
 module _ (d j : ℕ) (pos : List ℕ) (n : ℕ) (ts : List (Branch (up d j))) where
-  pub missing : span_of (span_at d j pos n ts) ≡ Span.TheVariants.Missing → branch_at d j pos ts ≡ none
+  pub missing : span_at d j pos n ts ≡ None → branch_at d j pos ts ≡ None
   missing e = go (branch_at d j pos ts) refl
     where
-      go : (o : Option (Branch j)) → branch_at d j pos ts ≡ o → branch_at d j pos ts ≡ none
-      go none q = q
-      go (some t) q = let s = (span-some d j pos n ts t q).span in let z : ◌≡◌ {A = ℕ} 0 1 = cc in absurd (omega arith)
+      go : (o : Option (Branch j)) → branch_at d j pos ts ≡ o → branch_at d j pos ts ≡ None
+      go None q = q
+      go (Some t) q = let s = (span-some d j pos n ts t q).span in let z : ◌≡◌ {A = ℕ} 0 1 = cc in absurd (omega arith)
 
-  pub stands : (start stop : ℕ) → span_at d j pos n ts ≡ some (start, stop) → Stands d j pos n ts start stop
+  pub stands : (start stop : ℕ) → span_at d j pos n ts ≡ Some (start, stop) → Stands d j pos n ts start stop
   stands start stop e = go (branch_at d j pos ts) refl
     where
       go : (o : Option (Branch j)) → branch_at d j pos ts ≡ o → Stands d j pos n ts start stop
-      go none q = let s = span_none d j pos n ts q in let z : ◌≡◌ {A = ℕ} 0 1 = cc in absurd (omega arith)
-      go (some t) q =
+      go None q = let s = span_none d j pos n ts q in let z : ◌≡◌ {A = ℕ} 0 1 = cc in absurd (omega arith)
+      go (Some t) q =
           let s = span-some d j pos n ts t q in
           let f = s.span in
           let p : ◌≡◌ {A = ℕ × ℕ} (start, stop) (n + length s.spot.pre, n + length s.spot.pre + size j t) = cc in
@@ -148,12 +138,9 @@ module _ (d j : ℕ) (pos : List ℕ) (n : ℕ) (ts : List (Branch (up d j))) wh
           let y : stop ≡ n + length s.spot.pre + size j t = ap (λ (z : ℕ × ℕ). z.1) p in
           record { branch = t; there = q; spot = s.spot; first = x; last = y ∙ rw x }
 
-  pub found : (start stop : ℕ) → span_of (span_at d j pos n ts) ≡ Span.TheVariants.At start stop → Stands d j pos n ts start stop
-  found start stop e = stands start stop (at-span (span_at d j pos n ts) start stop e)
-
 -- ---- two positions
 
-numbered-low : (k i n : ℕ) (ts : List (Branch k)) (u : ℕ × Branch k) → nth i (numbered k n ts) ≡ some u → n ≤ u.0
+numbered-low : (k i n : ℕ) (ts : List (Branch k)) (u : ℕ × Branch k) → nth i (numbered k n ts) ≡ Some u → n ≤ u.0
 unfolding numbered
 numbered-low k i n [] u e = let z : ◌≡◌ {A = ℕ} 0 1 = cc in absurd (omega arith)
 numbered-low k zero n (t ∷ ts) u e =
@@ -167,15 +154,15 @@ record Holds (k : ℕ) (u : ℕ × Branch k) (a : ℕ) : Type 0 where
   low : u.0 ≤ a
   high : a < u.0 + size k u.1
 
-past_first : (k i n : ℕ) (t : Branch k) (ts : List (Branch k)) (u v : ℕ × Branch k) (a : ℕ) → ◌≡◌ {A = Option (ℕ × Branch k)} (some (n, t)) (some u)
-    → nth i (numbered k (n + size k t) ts) ≡ some v → Holds k u a → Holds k v a → ⊥
+past_first : (k i n : ℕ) (t : Branch k) (ts : List (Branch k)) (u v : ℕ × Branch k) (a : ℕ) → ◌≡◌ {A = Option (ℕ × Branch k)} (Some (n, t)) (Some u)
+    → nth i (numbered k (n + size k t) ts) ≡ Some v → Holds k u a → Holds k v a → ⊥
 past_first k i n t ts u v a e f g h =
     let p : ◌≡◌ {A = ℕ × Branch k} (n, t) u = cc in
     let q : n + size k t ≡ u.0 + size k u.1 = ap (λ (z : ℕ × Branch k). z.0 + size k z.1) p in
     let o = numbered-low k i (n + size k t) ts v f in
     omega (arith, g.high, h.low)
 
-one-branch : (k i l n : ℕ) (ts : List (Branch k)) (u v : ℕ × Branch k) (a : ℕ) → nth i (numbered k n ts) ≡ some u → nth l (numbered k n ts) ≡ some v
+one-branch : (k i l n : ℕ) (ts : List (Branch k)) (u v : ℕ × Branch k) (a : ℕ) → nth i (numbered k n ts) ≡ Some u → nth l (numbered k n ts) ≡ Some v
     → Holds k u a → Holds k v a → i ≡ l
 unfolding numbered
 one-branch k i l n [] u v a e f g h = let z : ◌≡◌ {A = ℕ} 0 1 = cc in absurd (omega arith)
@@ -187,13 +174,13 @@ one-branch k (suc i) (suc l) n (t ∷ ts) u v a e f g h = ap suc (one-branch k i
 -- the first index's branch holds the record
 record Inside (d j i n : ℕ) (ts : List (Branch (up d j))) (a : ℕ) : Type 0 where
   outer : ℕ × Branch (up d j)
-  there : nth i (numbered (up d j) n ts) ≡ some outer
+  there : nth i (numbered (up d j) n ts) ≡ Some outer
   holds : Holds (up d j) outer a
 
-inside : (d j i : ℕ) (is : List ℕ) (n : ℕ) (ts : List (Branch (up d j))) (a b : ℕ) → span_at d j (i ∷ is) n ts ≡ some (a, b) → Inside d j i n ts a
+inside : (d j i : ℕ) (is : List ℕ) (n : ℕ) (ts : List (Branch (up d j))) (a b : ℕ) → span_at d j (i ∷ is) n ts ≡ Some (a, b) → Inside d j i n ts a
 unfolding span_at flat
 inside zero j i is n ts a b e =
-    let s = and-then (nth i (numbered j n ts)) (λ t. some (t.0, t.0 + size j t.1)) (a, b) e in
+    let s = and-then (nth i (numbered j n ts)) (λ t. Some (t.0, t.0 + size j t.1)) (a, b) e in
     let p : ◌≡◌ {A = ℕ × ℕ} (s.0.0, s.0.0 + size j s.0.1) (a, b) = let q = s.2 in cc in
     let x : s.0.0 ≡ a = ap (λ (z : ℕ × ℕ). z.0) p in
     record { outer = s.0; there = s.1; holds = record { low = omega arith; high = omega (arith, ap length (flat-root j s.0.1)) } }
@@ -206,13 +193,13 @@ inside (suc d) j i is n ts a b e =
     record { outer = u; there = s.1; holds = record { low = omega arith; high = omega (arith, ap length (flat-root j t.branch)) } }
 
 span_below : (d j i : ℕ) (is : List ℕ) (n : ℕ) (ts : List (Branch (suc (up d j)))) (u : ℕ × Branch (suc (up d j))) (s : Option (ℕ × ℕ))
-    → nth i (numbered (suc (up d j)) n ts) ≡ some u → span_at (suc d) j (i ∷ is) n ts ≡ s → span_at d j is (suc u.0) u.1.1 ≡ s
+    → nth i (numbered (suc (up d j)) n ts) ≡ Some u → span_at (suc d) j (i ∷ is) n ts ≡ s → span_at d j is (suc u.0) u.1.1 ≡ s
 unfolding span_at
 span_below d j i is n ts u s e f = rw e at f
 
 -- two positions of one length at which the same record starts are the same
 pub span-inj : (d j : ℕ) (p q : List ℕ) (n : ℕ) (ts : List (Branch (up d j))) (a b c : ℕ) → length p ≡ suc d → length q ≡ suc d
-    → span_at d j p n ts ≡ some (a, b) → span_at d j q n ts ≡ some (a, c) → p ≡ q
+    → span_at d j p n ts ≡ Some (a, b) → span_at d j q n ts ≡ Some (a, c) → p ≡ q
 span-inj d j [] q n ts a b c lp lq e f = absurd (omega arith)
 span-inj d j (i ∷ is) [] n ts a b c lp lq e f = absurd (omega arith)
 span-inj zero j (i ∷ (x ∷ is)) (l ∷ ls) n ts a b c lp lq e f = absurd (omega arith)
@@ -225,7 +212,7 @@ span-inj (suc d) j (i ∷ is) (l ∷ ls) n ts a b c lp lq e f =
     let g = inside (suc d) j i is n ts a b e in
     let h = inside (suc d) j l ls n ts a c f in
     let x = one-branch (suc (up d j)) i l n ts g.outer h.outer a g.there h.there g.holds h.holds in
-    let f' : span_at (suc d) j (i ∷ ls) n ts ≡ some (a, c) = ap (λ (y : ℕ). span_at (suc d) j (y ∷ ls) n ts) x ∙ f in
+    let f' : span_at (suc d) j (i ∷ ls) n ts ≡ Some (a, c) = ap (λ (y : ℕ). span_at (suc d) j (y ∷ ls) n ts) x ∙ f in
     let u = g.outer in
     let y = span-inj d j is ls (suc u.0) u.1.1 a b c (omega arith) (omega arith) (span_below d j i is n ts u _ g.there e) (span_below d j i ls n ts u _ g.there f') in
     λ k. x k ∷ y k

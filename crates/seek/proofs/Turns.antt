@@ -1,8 +1,12 @@
 -- What each loop keeps, and what it gives where it is left. Assumes nothing.
+use Rattle.std.specs.Prelude.{None, Option, Some, option_map, Ok, Err, IsErrAnd, ok_or}
+use Rattle.machine.specs.Answer.{Result, position}
+use Rattle.machine.specs.declared.Refusal.{Refusal}
+use Rattle.machine.specs.declared.Refusal.TheVariants.{NoPosition}
+use Rattle.laws.specs.Exits.{ok-some, exit-none}
 use Prim.Native.Nat.{ℕ, suc, ◌+◌, ◌-◌, ◌*◌, ◌/◌, ◌≤◌, ◌<◌}
 use mathlib.Core.Path.{◌≡◌, refl, sym, ap, ◌∙◌}
 use mathlib.Core.List.{List, [], ◌∷◌, append-nil}
-use mathlib.Core.Option.{Option, none, some, map}
 use native.Mathlib.Nat.{add-zero, zero-add}
 use native.Mathlib.Numerals.{add-one}
 use native.Mathlib.Omega.{arith}
@@ -16,13 +20,10 @@ use Rattle.machine.specs.declared.RecordNumbers.{RecordNumbers}
 use Rattle.laws.specs.Lists.{and-then}
 use Rattle.laws.specs.Grouped.{flats-kinds}
 use Rattle.laws.specs.Layout.{records-read, read-parts, read_length, length-parts}
-use Rattle.seek.specs.Seek.{Good, Within, held, record_at, records_in, descendants, child, at_child, child_start, to_end, child_span, part_in, part_of, atom_records, span, start_of, span_of, followed_of, five_numbers}
+use Rattle.seek.specs.Seek.{Good, Within, held, record_at, records_in, descendants, child, at_child, child_start, to_end, child_span, part_in, part_of, atom_records, span, five_numbers}
 use Rattle.seek.proofs.Below.{records_in-cons, record-kind, records_in-nil, child-pass, child-next, child-here, child-low, child-nil, child-below, descendants-over, span_in, span-machine}
 use Rattle.seek.proofs.Laws.{records-count}
-use Rattle.seek.specs.declared.Span as Span
-use Rattle.seek.specs.declared.Start as Start
 use Rattle.seek.specs.declared.Part.{Part}
-use Rattle.seek.specs.declared.Followed as Followed
 
 -- ---- end_of
 
@@ -60,8 +61,8 @@ pub sought-begin : (w : List ℕ) (from end h i : ℕ) → Within from end w →
 sought-begin w from end h i b = record { high = b.order; same = refl }
 
 module _ (w : List ℕ) (from end h i at left : ℕ) (s : Sought w from end h i at left) where
-  pub sought-out : end ≤ at → Start.TheVariants.Missing ≡ start_of (child_start h i from (records_in from end w))
-  sought-out l = rw (s.same, records_in-nil w end at l, child-nil h (λ m after. some m) left at)
+  pub sought-out : end ≤ at → None ≡ child_start h i from (records_in from end w)
+  sought-out l = rw (s.same, records_in-nil w end at l, child-nil h (λ m after. Some m) left at)
 
   module _ (l : at < end) where
     -- the search from the record at hand on
@@ -71,50 +72,49 @@ module _ (w : List ℕ) (from end h i at left : ℕ) (s : Sought w from end h i 
     pub sought-pass : h ≤ get_or w (at * 12) 0 → (get_or w (at * 12) 0 ≡ h → ⊥) → Sought w from end h i (at + 1) left
     sought-pass k n =
         let e = record-kind w at in
-        record { high = omega arith; same = from-here ∙ rw add-one (child-pass h (λ m after. some m) left at (record_at at w) (records_in (suc at) end w) (omega arith)) }
+        record { high = omega arith; same = from-here ∙ rw add-one (child-pass h (λ m after. Some m) left at (record_at at w) (records_in (suc at) end w) (omega arith)) }
 
     pub sought-next : get_or w (at * 12) 0 ≡ h → (left ≡ 0 → ⊥) → Sought w from end h i (at + 1) (left - 1)
     sought-next k n =
         let q : left ≡ suc (left - 1) = omega arith in
         record {
           high = omega arith;
-          same = from-here ∙ ap (λ (x : ℕ). child_start h x at (record_at at w ∷ records_in (at + 1) end w)) q ∙ rw add-one (child-next h (λ m after. some m) (left - 1) at (record_at at w) (records_in (suc at) end w) (record-kind w at ∙ k));
+          same = from-here ∙ ap (λ (x : ℕ). child_start h x at (record_at at w ∷ records_in (at + 1) end w)) q ∙ rw add-one (child-next h (λ m after. Some m) (left - 1) at (record_at at w) (records_in (suc at) end w) (record-kind w at ∙ k));
         }
 
-    pub sought-low : get_or w (at * 12) 0 < h → Start.TheVariants.Missing ≡ start_of (child_start h i from (records_in from end w))
+    pub sought-low : get_or w (at * 12) 0 < h → None ≡ child_start h i from (records_in from end w)
     sought-low k =
         let e = record-kind w at in
-        rw (from-here, child-low h (λ m after. some m) left at (record_at at w) (records_in (at + 1) end w) (omega arith))
+        rw (from-here, child-low h (λ m after. Some m) left at (record_at at w) (records_in (at + 1) end w) (omega arith))
 
-    pub sought-here : get_or w (at * 12) 0 ≡ h → left ≡ 0 → Start.TheVariants.At at ≡ start_of (child_start h i from (records_in from end w))
+    pub sought-here : get_or w (at * 12) 0 ≡ h → left ≡ 0 → Some at ≡ child_start h i from (records_in from end w)
     sought-here k z =
         sym
-        (ap start_of
-        (from-here ∙ ap (λ (x : ℕ). child_start h x at (record_at at w ∷ records_in (at + 1) end w)) z ∙ child-here h (λ m after. some m) at (record_at at w) (records_in (at + 1) end w) (record-kind w at ∙ k)))
+        (from-here ∙ ap (λ (x : ℕ). child_start h x at (record_at at w ∷ records_in (at + 1) end w)) z ∙ child-here h (λ m after. Some m) at (record_at at w) (records_in (at + 1) end w) (record-kind w at ∙ k))
 
 -- ---- what start_of finds
 
 -- the record found, by its offset
 pub record Met (h i from end : ℕ) (w : List ℕ) (at : ℕ) : Type 0 where
   pub offset : ℕ
-  pub found : child h i (records_in from end w) ≡ some offset
+  pub found : child h i (records_in from end w) ≡ Some offset
   pub number : from + offset ≡ at
   pub below : at < end
 
 module _ (w : List ℕ) (h i from end : ℕ) where
-  pub met : (r : Start.Start) (at : ℕ) → Within from end w → r ≡ start_of (child_start h i from (records_in from end w)) → r ≡ Start.TheVariants.At at → Met h i from end w at
+  pub met : (r : Option ℕ) (at : ℕ) → Within from end w → r ≡ child_start h i from (records_in from end w) → r ≡ Some at → Met h i from end w at
   met r at b e m = go (child h i (records_in from end w)) refl (sym e ∙ m)
     where
-      go : (c : Option ℕ) → child h i (records_in from end w) ≡ c → start_of (and_then c (λ o. some (from + o))) ≡ Start.TheVariants.At at → Met h i from end w at
-      go none q p = let z : ◌≡◌ {A = ℕ} 0 1 = cc in absurd (omega arith)
-      go (some o) q p = let n : from + o ≡ at = cc in record { offset = o; found = q; number = n; below = omega (arith, child-below w h i from end o b q) }
+      go : (c : Option ℕ) → child h i (records_in from end w) ≡ c → (and_then c (λ o. Some (from + o))) ≡ Some at → Met h i from end w at
+      go None q p = let z : ◌≡◌ {A = ℕ} 0 1 = cc in absurd (omega arith)
+      go (Some o) q p = let n : from + o ≡ at = cc in record { offset = o; found = q; number = n; below = omega (arith, child-below w h i from end o b q) }
 
-  pub unmet : {A : Type 0} (f : ℕ → List Words → Option A) → start_of (child_start h i from (records_in from end w)) ≡ Start.TheVariants.Missing → at_child h i f from (records_in from end w) ≡ none
+  pub unmet : {A : Type 0} (f : ℕ → List Words → Option A) → (child_start h i from (records_in from end w)) ≡ None → at_child h i f from (records_in from end w) ≡ None
   unmet {A} f e = go (child h i (records_in from end w)) e
     where
-      go : (c : Option ℕ) → start_of (and_then c (λ o. some (from + o))) ≡ Start.TheVariants.Missing → and_then c (λ o. f (from + o) (drop (suc o) (records_in from end w))) ≡ none
-      go none p = refl
-      go (some o) p = let z : ◌≡◌ {A = ℕ} 0 1 = cc in absurd (omega arith)
+      go : (c : Option ℕ) → (and_then c (λ o. Some (from + o))) ≡ None → and_then c (λ o. f (from + o) (drop (suc o) (records_in from end w))) ≡ None
+      go None p = refl
+      go (Some o) p = let z : ◌≡◌ {A = ℕ} 0 1 = cc in absurd (omega arith)
 
   pub met-is : {A : Type 0} (f : ℕ → List Words → Option A) (at : ℕ) → Met h i from end w at → at_child h i f from (records_in from end w) ≡ f at (records_in (at + 1) end w)
   met-is f at m =
@@ -123,16 +123,16 @@ module _ (w : List ℕ) (h i from end : ℕ) where
 
 -- ---- child
 
-pub child-missing : (w : List ℕ) (h i from end : ℕ) (r : Start.Start) → r ≡ start_of (child_start h i from (records_in from end w)) → r ≡ Start.TheVariants.Missing
-    → Span.TheVariants.Missing ≡ span_of (child_span h i from (records_in from end w))
+pub child-missing : (w : List ℕ) (h i from end : ℕ) (r : Option ℕ) → r ≡ child_start h i from (records_in from end w) → r ≡ None
+    → None ≡ child_span h i from (records_in from end w)
 child-missing w h i from end r e m = rw (unmet w h i from end (to_end h) (sym e ∙ m))
 
-pub after-child : (w : List ℕ) (h i from end : ℕ) (r : Start.Start) (at : ℕ) → Within from end w → r ≡ start_of (child_start h i from (records_in from end w)) → r ≡ Start.TheVariants.At at
+pub after-child : (w : List ℕ) (h i from end : ℕ) (r : Option ℕ) (at : ℕ) → Within from end w → r ≡ child_start h i from (records_in from end w) → r ≡ Some at
     → Within (at + 1) end w
 after-child w h i from end r at b e m = record { order = omega (arith, (met w h i from end r at b e m).below); room = b.room }
 
-pub child-is : (w : List ℕ) (h i from end : ℕ) (r : Start.Start) (at stop : ℕ) → Within from end w → r ≡ start_of (child_start h i from (records_in from end w)) → r ≡ Start.TheVariants.At at → stop ≡ at + 1 + descendants h (records_in (at + 1) end w)
-    → Span.TheVariants.At at stop ≡ span_of (child_span h i from (records_in from end w))
+pub child-is : (w : List ℕ) (h i from end : ℕ) (r : Option ℕ) (at stop : ℕ) → Within from end w → r ≡ child_start h i from (records_in from end w) → r ≡ Some at → stop ≡ at + 1 + descendants h (records_in (at + 1) end w)
+    → (Some (at, stop)) ≡ child_span h i from (records_in from end w)
 child-is w h i from end r at stop b c d e =
     let m = met w h i from end r at b c d in
     let q : stop ≡ suc at + descendants h (records_in (at + 1) end w) = e ∙ ap (λ (x : ℕ). x + descendants h (records_in (at + 1) end w)) (add-one at) in
@@ -166,7 +166,7 @@ module _ (w pos : List ℕ) (count : ℕ) (g : Good w) (all : count ≡ length (
 
   -- with no index, all records are below
   pub follow-whole : length pos ≡ 0 → (path : RecordNumbers) → path ≡ five_numbers (replicate {A = ℕ} 5 0)
-      → Followed.TheVariants.To (record { from = 0; end = count; depth = 0; path = path }) ≡ followed_of (part_of pos (held w))
+      → Some (record { from = 0; end = count; depth = 0; path = path }) ≡ part_of pos (held w)
   unfolding part_in
   follow-whole e path f =
       let d : 0 + descendants 0 (records (held w)) ≡ count = zero-add _ ∙ rw append-nil at (descendants-over 0 (records (held w)) [] (flats-kinds 0 4 (omega arith) (held w)) tt) ∙ sym all in
@@ -187,11 +187,11 @@ module _ (w pos : List ℕ) (count level at : ℕ) (path : List ℕ) (s : Follow
   unfolding part_in
   one_index l = s.same ∙ rw (drop-cons pos level 0 l, add-one)
 
-  pub following-below : (r : Start.Start) (number : ℕ) → r ≡ start_of (child_start (level + 1) (get_or pos level 0) at (records_in at count w)) → r ≡ Start.TheVariants.At number
+  pub following-below : (r : Option ℕ) (number : ℕ) → r ≡ child_start (level + 1) (get_or pos level 0) at (records_in at count w) → r ≡ Some number
       → Met (level + 1) (get_or pos level 0) at count w number
   following-below r number e q = met w (level + 1) (get_or pos level 0) at count r number following-within e q
 
-  pub following-on : (r : Start.Start) (number : ℕ) → level < length pos → r ≡ start_of (child_start (level + 1) (get_or pos level 0) at (records_in at count w)) → r ≡ Start.TheVariants.At number
+  pub following-on : (r : Option ℕ) (number : ℕ) → level < length pos → r ≡ child_start (level + 1) (get_or pos level 0) at (records_in at count w) → r ≡ Some number
       → Following w pos count (level + 1) (number + 1) (set path level number)
   following-on r number l e q =
       let m = following-below r number e q in
@@ -204,13 +204,13 @@ module _ (w pos : List ℕ) (count level at : ℕ) (path : List ℕ) (s : Follow
         same = one_index l ∙ met-is w (level + 1) (get_or pos level 0) at count (onward level path pos) number m ∙ ap (λ (x : ℕ). part_in (level + 1) (set path level number) (drop (level + 1) pos) x (records_in (number + 1) count w)) (sym (add-one number));
       }
 
-  pub following-missing : (r : Start.Start) → level < length pos → r ≡ start_of (child_start (level + 1) (get_or pos level 0) at (records_in at count w)) → r ≡ Start.TheVariants.Missing
-      → Followed.TheVariants.Missing ≡ followed_of (part_of pos (held w))
+  pub following-missing : (r : Option ℕ) → level < length pos → r ≡ child_start (level + 1) (get_or pos level 0) at (records_in at count w) → r ≡ None
+      → None ≡ part_of pos (held w)
   following-missing r l e m =
-      sym (ap followed_of (one_index l ∙ unmet w (level + 1) (get_or pos level 0) at count (onward level path pos) (sym e ∙ m)))
+      sym (one_index l ∙ unmet w (level + 1) (get_or pos level 0) at count (onward level path pos) (sym e ∙ m))
 
   pub following-end : (stop : ℕ) (numbers : RecordNumbers) → length pos ≤ level → stop ≡ at + descendants level (records_in at count w) → numbers ≡ five_numbers path
-      → Followed.TheVariants.To (record { from = at; end = stop; depth = level; path = numbers }) ≡ followed_of (part_of pos (held w))
+      → Some (record { from = at; end = stop; depth = level; path = numbers }) ≡ part_of pos (held w)
   unfolding part_in
   following-end stop numbers l e f = rw (s.same, drop_of_length-le pos l, e, f)
 
@@ -219,22 +219,22 @@ module _ (w pos : List ℕ) (count level at : ℕ) (path : List ℕ) (s : Follow
 abbrev around : Part → ℕ × ℕ
 around p = (p.from - 1, p.end)
 
-span-part : (g : ℕ) (path pos : List ℕ) (n : ℕ) (rs : List Words) → span_in g pos n rs ≡ map around (part_in g path pos n rs)
+span-part : (g : ℕ) (path pos : List ℕ) (n : ℕ) (rs : List Words) → span_in g pos n rs ≡ option_map around (part_in g path pos n rs)
 unfolding span_in part_in
 span-part g path [] n rs = refl
 span-part g path (i ∷ is) n rs = go (λ m after. span-part (suc g) (set path g m) is (suc m) after) (child (suc g) i rs)
   where
-    go : ((m : ℕ) (after : List Words) → span_in (suc g) is (suc m) after ≡ map around (part_in (suc g) (set path g m) is (suc m) after)) → (c : Option ℕ)
-        → and_then c (λ o. span_in (suc g) is (suc (n + o)) (drop (suc o) rs)) ≡ map around (and_then c (λ o. part_in (suc g) (set path g (n + o)) is (suc (n + o)) (drop (suc o) rs)))
-    go below none = refl
-    go below (some o) = below (n + o) (drop (suc o) rs)
+    go : ((m : ℕ) (after : List Words) → span_in (suc g) is (suc m) after ≡ option_map around (part_in (suc g) (set path g m) is (suc m) after)) → (c : Option ℕ)
+        → and_then c (λ o. span_in (suc g) is (suc (n + o)) (drop (suc o) rs)) ≡ option_map around (and_then c (λ o. part_in (suc g) (set path g (n + o)) is (suc (n + o)) (drop (suc o) rs)))
+    go below None = refl
+    go below (Some o) = below (n + o) (drop (suc o) rs)
 
 -- each index leads past a record, and a level down
 pub record Led (g : ℕ) (pos : List ℕ) (n : ℕ) (p : Part) : Type 0 where
   pub past : n + length pos ≤ p.from
   pub depth : p.depth ≡ g + length pos
 
-pub part-led : (g : ℕ) (path pos : List ℕ) (n : ℕ) (rs : List Words) (p : Part) → part_in g path pos n rs ≡ some p → Led g pos n p
+pub part-led : (g : ℕ) (path pos : List ℕ) (n : ℕ) (rs : List Words) (p : Part) → part_in g path pos n rs ≡ Some p → Led g pos n p
 unfolding part_in
 part-led g path [] n rs p e =
     let f : n ≡ p.from = cc in
@@ -245,28 +245,25 @@ part-led g path (i ∷ is) n rs p e =
     let l = part-led (suc g) (set path g (n + v.0)) is (suc (n + v.0)) (drop (suc v.0) rs) p v.2 in
     record { past = omega (arith, l.past); depth = omega (arith, l.depth) }
 
--- an answer tells its part
-pub at_part : (o : Option Part) (p : Part) → followed_of o ≡ Followed.TheVariants.To p → o ≡ some p
-at_part none p e = let z : ◌≡◌ {A = ℕ} 0 1 = cc in absurd (omega arith)
-at_part (some q) p e = cc
-
-pub no_part : (o : Option Part) → followed_of o ≡ Followed.TheVariants.Missing → o ≡ none
-no_part none e = refl
-no_part (some q) e = let z : ◌≡◌ {A = ℕ} 0 1 = cc in absurd (omega arith)
-
-module _ (w pos : List ℕ) (lo : 1 ≤ length pos) (hi : length pos ≤ 5) (r : Followed.Followed) (e : r ≡ followed_of (part_of pos (held w))) where
-  is-span : span pos (held w) ≡ map around (part_of pos (held w))
+module _ (w pos : List ℕ) (lo : 1 ≤ length pos) (hi : length pos ≤ 5) (r : Option Part) (e : r ≡ part_of pos (held w)) where
+  is-span : span pos (held w) ≡ option_map around (part_of pos (held w))
   is-span = sym (span-machine pos (held w) lo hi) ∙ span-part 0 (replicate {A = ℕ} 5 0) pos 0 (records (held w))
 
-  pub locate-missing : r ≡ Followed.TheVariants.Missing → Span.TheVariants.Missing ≡ span_of (span pos (held w))
-  locate-missing f = sym (ap span_of (is-span ∙ ap (map around) (no_part (part_of pos (held w)) (sym e ∙ f))))
+  module _ (q : Result Part) (h : q ≡ ok_or r NoPosition) where
+    pub locate-missing : (y : Refusal) → q ≡ Err y → (a : Result (ℕ × ℕ)) → IsErrAnd a (λ z. z ≡ y) → a ≡ position (span pos (held w))
+    locate-missing y f a i =
+        let x = exit-none r q NoPosition y a h f i in
+        x.1 ∙ sym (ap position (is-span ∙ ap (option_map around) (sym e ∙ x.0)))
 
-  module _ (p : Part) (f : r ≡ Followed.TheVariants.To p) where
-    pub locate-low : 1 ≤ p.from
-    locate-low = omega (arith, (part-led 0 (replicate {A = ℕ} 5 0) pos 0 (records (held w)) p (at_part (part_of pos (held w)) p (sym e ∙ f))).past)
+    module _ (p : Part) (f : q ≡ Ok p) where
+      part-is : part_of pos (held w) ≡ Some p
+      part-is = sym e ∙ ok-some r q NoPosition p h f
 
-    pub locate-is : Span.TheVariants.At (p.from - 1) p.end ≡ span_of (span pos (held w))
-    locate-is = sym (ap span_of (is-span ∙ ap (map around) (at_part (part_of pos (held w)) p (sym e ∙ f))))
+      pub locate-low : 1 ≤ p.from
+      locate-low = omega (arith, (part-led 0 (replicate {A = ℕ} 5 0) pos 0 (records (held w)) p part-is).past)
+
+      pub locate-is : Ok (p.from - 1, p.end) ≡ position (span pos (held w))
+      locate-is = sym (ap position (is-span ∙ ap (option_map around) part-is))
 
 -- ---- atoms_in
 

@@ -2,17 +2,11 @@
 #![tactic(auto)]
 
 ghost use Rattle.std.specs.Prelude.{◌≡◌, ◌+◌, ◌*◌, ◌≤◌, length};
+ghost use Rattle.machine.specs.Answer as Answer;
 ghost use Rattle.machine.specs.Store.{records};
-ghost use Rattle.seek.specs.Seek.{Good, Within, held, records_in, descendants, child_start, child_span, atom_records, part_of, span, start_of, span_of, followed_of, five_numbers};
+ghost use Rattle.seek.specs.Seek.{Good, Within, held, records_in, descendants, child_start, child_span, atom_records, part_of, span, five_numbers};
 
-use machine::{Record, RecordNumbers};
-
-// The number of a record, and the number after that of its last descendant.
-#[derive(Clone, Copy)]
-pub enum Span {
-    At(usize, usize),
-    Missing,
-}
+use machine::{Record, RecordNumbers, Refusal};
 
 // The records below a position: their numbers from `from` up to `end`, and the `depth` records above them, whose numbers are the first of `path`.
 #[derive(Clone, Copy)]
@@ -23,68 +17,53 @@ pub struct Part {
     pub path: RecordNumbers,
 }
 
-#[derive(Clone, Copy)]
-pub enum Followed {
-    To(Part),
-    Missing,
-}
-
-// The number of a record.
-#[derive(Clone, Copy)]
-enum Start {
-    At(usize),
-    Missing,
-}
-
 // The first record of the kind or of a lower one, from `from` on; `end` where there is none before it.
 pub fn end_of(store: &[u64], from: usize, end: usize, kind: u64) -> usize
     requires { Within from end store.now }
     ensures { result ≡ from + descendants kind (records_in from end store.now) }
 {
-    let mut at: usize = from;
-    while at < end {
+    for at in from..end {
         if store[at * Record::WIDTH] <= kind {
             return at;
         }
-        at += 1;
     }
-    at
+    end
 }
 
 // The index-th record of a kind among the records from `from` up to `end`, before one of a lower kind.
-fn start_of(store: &[u64], from: usize, end: usize, kind: u64, index: u64) -> Start
+fn start_of(store: &[u64], from: usize, end: usize, kind: u64, index: u64) -> Option<usize>
     requires { Within from end store.now }
-    ensures { result ≡ start_of (child_start kind index from (records_in from end store.now)) }
+    ensures { result ≡ child_start kind index from (records_in from end store.now) }
 {
-    let mut at: usize = from;
-    let mut left: u64 = index;
-    while at < end {
+    let mut left = index;
+    for at in from..end {
         let k = store[at * Record::WIDTH];
         if k < kind {
-            return Start::Missing;
+            return None;
         }
         if k == kind {
             if left == 0 {
-                return Start::At(at);
+                return Some(at);
             }
             left -= 1;
-            at += 1;
-        } else {
-            at += 1;
         }
     }
-    Start::Missing
+    None
 }
 
-// That record, with where its descendants end.
-pub fn child(store: &[u64], from: usize, end: usize, kind: u64, index: u64) -> Span
+// That record, and the number after that of its last descendant.
+pub fn child(
+    store: &[u64],
+    from: usize,
+    end: usize,
+    kind: u64,
+    index: u64,
+) -> Option<(usize, usize)>
     requires { Within from end store.now }
-    ensures { result ≡ span_of (child_span kind index from (records_in from end store.now)) }
+    ensures { result ≡ child_span kind index from (records_in from end store.now) }
 {
-    let Start::At(at) = start_of(store, from, end, kind, index) else {
-        return Span::Missing;
-    };
-    Span::At(at, end_of(store, at + 1, end, kind))
+    let at = start_of(store, from, end, kind, index)?;
+    Some((at, end_of(store, at + 1, end, kind)))
 }
 
 // How many records a store has.
@@ -109,15 +88,15 @@ fn numbers(l: [u64; 5]) -> RecordNumbers
 }
 
 // The records below a position of none to five indexes. With no index they are all, and no record is looked at; else each is passed once at most.
-pub fn follow(store: &[u64], position: &[u64]) -> Followed
+pub fn follow(store: &[u64], position: &[u64]) -> Option<Part>
     requires good { Good store.now }
     requires position_len_bound { length position.now ≤ 5 }
-    ensures { result ≡ followed_of (part_of position.now (held store.now)) }
+    ensures { result ≡ part_of position.now (held store.now) }
 {
     let count = record_count(store);
     let mut path: [u64; 5] = [0; 5];
     if position.len() == 0 {
-        return Followed::To(Part {
+        return Some(Part {
             from: 0,
             end: count,
             depth: 0,
@@ -125,34 +104,29 @@ pub fn follow(store: &[u64], position: &[u64]) -> Followed
         });
     }
     let mut at: usize = 0;
-    let mut level: usize = 0;
-    while level < position.len() {
-        let Start::At(number) = start_of(store, at, count, level as u64 + 1, position[level]) else {
-            return Followed::Missing;
-        };
+    for (level, index) in position.iter().enumerate() {
+        let number = start_of(store, at, count, level as u64 + 1, *index)?;
         path[level] = number as u64;
         at = number + 1;
-        level += 1;
     }
-    let end = end_of(store, at, count, level as u64);
-    Followed::To(Part {
+    let depth = position.len() as u64;
+    let end = end_of(store, at, count, depth);
+    Some(Part {
         from: at,
         end,
-        depth: level as u64,
+        depth,
         path: numbers(path),
     })
 }
 
-// The records of the branch at a position of one to five indexes.
-pub fn locate(store: &[u64], position: &[u64]) -> Span
+// The branch at a position of one to five indexes: the number of its first record, and the number after that of its last. "5 no such position"
+pub fn locate(store: &[u64], position: &[u64]) -> Result<(usize, usize), Refusal>
     requires good { Good store.now }
     requires in_bounds { (1 ≤ length position.now) × (length position.now ≤ 5) }
-    ensures { result ≡ span_of (span position.now (held store.now)) }
+    ensures { result ≡ Answer.position (span position.now (held store.now)) }
 {
-    let Followed::To(part) = follow(store, position) else {
-        return Span::Missing;
-    };
-    Span::At(part.from - 1, part.end)
+    let part = follow(store, position).ok_or(Refusal::NoPosition)?;
+    Ok((part.from - 1, part.end))
 }
 
 // How many of the records from `from` up to `end` are atoms.
@@ -161,13 +135,9 @@ pub fn atoms_in(store: &[u64], from: usize, end: usize) -> usize
     ensures { result ≡ atom_records (records_in from end store.now) }
 {
     let mut atoms: usize = 0;
-    let mut at: usize = from;
-    while at < end {
+    for at in from..end {
         if store[at * Record::WIDTH] == Record::ATOM {
             atoms += 1;
-            at += 1;
-        } else {
-            at += 1;
         }
     }
     atoms

@@ -1,4 +1,5 @@
 -- The words of one record of a good store: read, and written where its branch gets other fields. Assumes nothing.
+use Rattle.std.specs.Prelude.{Err, Ok, Option, Some, ok_or, IsErrAnd}
 use Prim.Native.Nat.{ℕ, zero, suc, ◌+◌, ◌-◌, ◌*◌, ◌≤◌, ◌<◌}
 use mathlib.Core.Path.{◌≡◌, refl, sym, ap, ◌∙◌}
 use mathlib.Core.List.{List, [], ◌∷◌, ◌++◌, append_assoc, append-nil}
@@ -8,25 +9,25 @@ use lib.ListN.{length, get_or, set, replicate, length-append, get_or-append}
 use lib.Seq.{get_or-append-add, set-append_left}
 use borrow.Author.Tests.{eq-eqb, ne_eqb}
 use Rattle.machine.specs.Lists.{concat_map}
-use Rattle.machine.specs.Answer.{edited_numbers}
+use Rattle.machine.specs.Answer.{Result, position, edited_numbers}
+use Rattle.machine.specs.declared.Edited.{Edited}
+use Rattle.machine.specs.declared.Refusal.{Refusal}
 use Rattle.machine.specs.Record.{Fields, Atom, Words, words}
 use Rattle.machine.specs.Store.{Branch, flat, records, stored, laid, lay_out}
 use Rattle.machine.specs.Edit.{up, root, replace_at, step_by, with_fields, set_at, with_element}
-use Rattle.machine.specs.declared.Edited.TheVariants.{Done, Refused}
-use Rattle.machine.specs.declared.Refusal.TheVariants.{NoPosition, BadValue}
+use Rattle.machine.specs.declared.Refusal.TheVariants.{BadValue}
+use Rattle.laws.specs.Exits.{placed, exit-nowhere, ok-some, exit-none}
 use Rattle.laws.specs.Lists.{All-left}
 use Rattle.laws.specs.Grouped.{concat, concat-length, twelve-words, words-length}
 use Rattle.laws.specs.Layout.{lay_out-read}
 use Rattle.laws.specs.Places.{atoms, replace-sum, same-measure}
 use Rattle.elements.specs.Element.{element_of}
 use Rattle.elements.specs.declared.Element.{Element}
-use Rattle.elements.specs.declared.MaybeElement as MaybeElement
 use Rattle.elements.proofs.Laws.{element-good}
 use Rattle.moves.proofs.Records.{concat-append}
-use Rattle.seek.specs.Seek.{Good, held, span_at, span_on, span, span_of}
+use Rattle.seek.specs.Seek.{Good, held, span_at, span_on, span}
 use Rattle.seek.proofs.Below.{under, flat-root}
-use Rattle.seek.proofs.Laws.{Stands, missing, found}
-use Rattle.seek.specs.declared.Span as Span
+use Rattle.seek.proofs.Laws.{Stands, missing, stands}
 use Rattle.settings.specs.Set.{element_set}
 
 -- ---- a part of a list, read and written
@@ -125,20 +126,22 @@ element-words : (e : ℕ) (a : Atom) → set (words 0 a) 8 e ≡ words 0 (with_e
 unfolding words
 element-words e a = refl
 
-module _ (w pos : List ℕ) (g : Good w) (five : length pos ≡ 5) (e : ℕ) (r : Span.Span) (q : r ≡ span_of (span pos (held w))) where
+module _ (w pos : List ℕ) (g : Good w) (five : length pos ≡ 5) (e : ℕ) (u : Result (ℕ × ℕ)) (f : u ≡ position (span pos (held w))) where
   abbrev outcome : List ℕ × List ℕ
   outcome = step_by w (element_set pos e)
 
-  spanned : r ≡ span_of (span_at 4 0 pos 0 (held w))
-  spanned = q ∙ ap (λ (n : ℕ). span_of (span_on n pos (held w))) five
+  spanned : span pos (held w) ≡ span_at 4 0 pos 0 (held w)
+  spanned = ap (λ (n : ℕ). (span_on n pos (held w))) five
 
-  pub element-missing : r ≡ Span.TheVariants.Missing → (edited_numbers (Refused NoPosition), w) ≡ outcome
+  pub element-missing : (x : Refusal) → u ≡ Err x → (a : Result Edited) → IsErrAnd a (λ z. z ≡ x) → (edited_numbers a, w) ≡ outcome
   unfolding step_by set_at
-  element-missing h = rw (g, missing 4 0 pos 0 (held w) (sym spanned ∙ h))
+  element-missing x h a i =
+      let n = exit-nowhere (span pos (held w)) u x a f h i in
+      rw n.1 (rw (g, missing 4 0 pos 0 (held w) (sym spanned ∙ n.0)))
 
-  module _ (at stop : ℕ) (h : r ≡ Span.TheVariants.At at stop) where
+  module _ (at stop : ℕ) (h : u ≡ Ok (at, stop)) where
     stand : Stands 4 0 pos 0 (held w) at stop
-    stand = found 4 0 pos 0 (held w) at stop (sym spanned ∙ h)
+    stand = stands 4 0 pos 0 (held w) at stop (sym spanned ∙ placed (span pos (held w)) u (at, stop) f h)
 
     abbrev atom : Atom
     atom = stand.branch
@@ -149,21 +152,26 @@ module _ (w pos : List ℕ) (g : Good w) (five : length pos ≡ 5) (e : ℕ) (r 
     element-is : get_or w (at * 12 + 8) 0 ≡ atom.element
     element-is = own-word w g 4 0 (omega arith) pos (held w) at stop refl stand 8 (omega arith) ∙ element-word atom
 
-    module _ (m : MaybeElement.MaybeElement) (k : m ≡ element_of e) where
-      pub element-bad : m ≡ MaybeElement.TheVariants.NotOne → (edited_numbers (Refused BadValue), w) ≡ outcome
+    module _ (m : Option Element) (k : m ≡ element_of e) (o : Result Element) (j : o ≡ ok_or m BadValue) where
+      pub element-bad : (x : Refusal) → o ≡ Err x → (a : Result Edited) → IsErrAnd a (λ z. z ≡ x) → (edited_numbers a, w) ≡ outcome
       unfolding step_by set_at
-      element-bad n = rw (g, stand.there, element-good e m k, n)
+      element-bad x l a i =
+          let n = exit-none m o BadValue x a j l i in
+          rw n.1 (rw (g, stand.there, element-good e m k, n.0))
 
-      module _ (y : Element) (n : m ≡ MaybeElement.TheVariants.Is y) (x : ℕ) (z : x ≡ get_or w (at * 12 + 8) 0) where
-        pub element-present : 0 < x → (edited_numbers (Done 0 0), w) ≡ outcome
+      module _ (y : Element) (l : o ≡ Ok y) (x : ℕ) (z : x ≡ get_or w (at * 12 + 8) 0) where
+        n : m ≡ Some y
+        n = ok-some m o BadValue y j l
+
+        pub element-present : 0 < x → (edited_numbers (Ok (record { found = 0; removed = 0 })), w) ≡ outcome
         unfolding step_by set_at
-        element-present l =
+        element-present p =
             let none : stored (held w) - stored (held w) ≡ 0 = omega arith in
-            rw (g, stand.there, element-good e m k, n, ne_eqb atom.element 0 (λ p. omega (arith, element-is)), none, lay_out-read w (held w) g)
+            rw (g, stand.there, element-good e m k, n, ne_eqb atom.element 0 (λ q. omega (arith, element-is)), none, lay_out-read w (held w) g)
 
-        pub element-set : x ≤ 0 → (v : List ℕ) → v ≡ set w (at * 12 + 8) e → (edited_numbers (Done 1 0), v) ≡ outcome
+        pub element-set : x ≤ 0 → (v : List ℕ) → v ≡ set w (at * 12 + 8) e → (edited_numbers (Ok (record { found = 1; removed = 0 })), v) ≡ outcome
         unfolding step_by set_at lay_out
-        element-set l v p =
+        element-set o v p =
             let new = with_element e atom in
             let none : stored (held w) - stored (replace_at 4 0 pos (new ∷ []) (held w)) ≡ 0 =
             omega (arith, replace-sum atoms 4 0 pos (new ∷ []) (held w) atom stand.there, same-measure atoms 0 new atom) in

@@ -7,9 +7,8 @@ ghost use Rattle.machine.specs.Edit.{step_by};
 ghost use Rattle.seek.specs.Seek.{Good};
 ghost use Rattle.settings.specs.Set.{element_set};
 
-use elements::{Element, MaybeElement};
+use elements::Element;
 use machine::{Edited, Record, Refusal};
-use seek::Span;
 
 // Word k of the record of a number, read and written.
 
@@ -28,20 +27,22 @@ fn put_word(store: &mut [u64], at: usize, k: usize, value: u64)
 }
 
 // Change request §6: the missing element of the atom at a position. Where there is one nothing changes, and found is 0.
-pub fn set_element(store: &mut [u64], position: &[u64], element: u64) -> Edited
+pub fn set_element(store: &mut [u64], position: &[u64], element: u64) -> Result<Edited, Refusal>
     requires good { Good store.old }
     requires position_len { length position.now ≡ 5 }
     ensures { (edited_numbers result, store.new) ≡ step_by store.old (element_set position.now element) }
 {
-    let Span::At(at, _) = seek::locate(store, position) else {
-        return Edited::Refused(Refusal::NoPosition);
-    };
-    let MaybeElement::Is(_) = Element::from_number(element) else {
-        return Edited::Refused(Refusal::BadValue);
-    };
+    let (at, _) = seek::locate(store, position)?;
+    Element::from_number(element).ok_or(Refusal::BadValue)?;
     if 0 < word(store, at, Record::ELEMENT) {
-        return Edited::Done(0, 0);
+        return Ok(Edited {
+            found: 0,
+            removed: 0,
+        });
     }
     put_word(store, at, Record::ELEMENT, element);
-    Edited::Done(1, 0)
+    Ok(Edited {
+        found: 1,
+        removed: 0,
+    })
 }

@@ -1,4 +1,5 @@
 -- One turn of each loop, and each answer of a function over a store's words. Assumes nothing.
+use Rattle.std.specs.Prelude.{Err, Ok}
 use Prim.Native.Nat.{ℕ, zero, suc, ◌+◌, ◌-◌, ◌*◌, ◌/◌, ◌%◌, ◌≤◌, ◌<◌}
 use mathlib.Core.Path.{◌≡◌, refl, sym, ap, ◌∙◌}
 use mathlib.Core.Bool.{Bool, true, false, ◌&&◌, cond, and-false, and-true}
@@ -11,11 +12,10 @@ use lib.Seq.{drop-cons, drop-drop, get_or-take, get_or-drop}
 use lib.Dec.{leb, eqb}
 use borrow.Author.Tests.{eq-eqb, ne_eqb, eqb-true, eqb-false, le-leb, lt-leb, leb-true, leb-false}
 use Rattle.machine.specs.Lists.{all}
-use Rattle.machine.specs.Answer.{opened_numbers}
+use Rattle.machine.specs.Answer.{Result, opened_numbers}
 use Rattle.machine.specs.Record.{Words, kind, good_record}
 use Rattle.machine.specs.Store.{good_length, end, gap, chunks, records_of, in_order, good_layout, stored, group, read_store, open_run}
 use Rattle.machine.specs.declared.Refusal.TheVariants.{BadLength, BrokenLayout}
-use Rattle.machine.specs.declared.Opened as Opened
 use Rattle.laws.specs.Layout.{parts-store}
 use Rattle.records.proofs.Laws.{atom-kind, good-low}
 use Rattle.moves.specs.Over.{over}
@@ -23,8 +23,6 @@ use Rattle.seek.specs.Seek.{atom_records}
 use Rattle.seek.proofs.Below.{chunks-add}
 use Rattle.store.specs.Store.{checked_by, counted, trailing_atoms}
 use Rattle.store.proofs.Laws.{atoms-grouped}
-use Rattle.store.specs.declared.Checked.{Checked}
-use Rattle.store.specs.declared.Checked.TheVariants.{Good, Refused}
 
 -- ---- zeros
 
@@ -164,7 +162,7 @@ order-bad [] rs h q = h q
 order-bad (r ∷ before) rs h q = rw (order-bad before rs h (kind r), and-false, and-false)
 
 -- no record may stand before those from `at` on
-bad : (s : List ℕ) (last at : ℕ) → at ≤ last → at % 12 ≡ 0 → last % 12 ≡ 0 → ((q : ℕ) → in_order q (records_behind s at last) ≡ false) → Refused BrokenLayout ≡ counted (chunks (last / 12) s)
+bad : (s : List ℕ) (last at : ℕ) → at ≤ last → at % 12 ≡ 0 → last % 12 ≡ 0 → ((q : ℕ) → in_order q (records_behind s at last) ≡ false) → Err BrokenLayout ≡ counted (chunks (last / 12) s)
 unfolding counted
 bad s last at l a b h =
     let i : last / 12 ≡ at / 12 + (last - at) / 12 = omega arith in
@@ -178,11 +176,11 @@ module _ {s : List ℕ} {last at next n : ℕ} (p : Behind s last at next n) whe
       let i : last - 0 ≡ last = omega arith in
       rw (z, i)
 
-  pub first_kind : at ≤ 0 → 1 < next → Refused BrokenLayout ≡ counted (chunks (last / 12) s)
+  pub first_kind : at ≤ 0 → 1 < next → Err BrokenLayout ≡ counted (chunks (last / 12) s)
   unfolding counted
   first_kind h l = rw (← all-behind h, p.order 0, lt-leb next 1 l)
 
-  pub all-good : at ≤ 0 → next ≤ 1 → Good n ≡ counted (chunks (last / 12) s)
+  pub all-good : at ≤ 0 → next ≤ 1 → Ok n ≡ counted (chunks (last / 12) s)
   unfolding counted
   all-good h l = rw (← all-behind h, p.order 0, le-leb next 1 l, p.atoms)
 
@@ -199,16 +197,16 @@ module _ {s : List ℕ} {last at next n : ℕ} (p : Behind s last at next n) whe
     unfolding atom_records
     atoms-back = rw (records_behind-back s at l p.starts p.low, p.atoms)
 
-    bad-back : ((q : ℕ) → in_order q (records_behind s (at - 12) last) ≡ false) → Refused BrokenLayout ≡ counted (chunks (last / 12) s)
+    bad-back : ((q : ℕ) → in_order q (records_behind s (at - 12) last) ≡ false) → Err BrokenLayout ≡ counted (chunks (last / 12) s)
     bad-back h =
         let a = p.starts in
         let k = p.low in
         bad s last (at - 12) (omega arith) (omega arith) p.ends h
 
-    record-bad : good_record (5 - kind r) r ≡ false → Refused BrokenLayout ≡ counted (chunks (last / 12) s)
+    record-bad : good_record (5 - kind r) r ≡ false → Err BrokenLayout ≡ counted (chunks (last / 12) s)
     record-bad g = bad-back (λ q. order-back q ∙ rw (g, and-false))
 
-    kind-bad : kind r + 1 < next → Refused BrokenLayout ≡ counted (chunks (last / 12) s)
+    kind-bad : kind r + 1 < next → Err BrokenLayout ≡ counted (chunks (last / 12) s)
     kind-bad h = bad-back (λ q. order-back q ∙ rw (lt-leb next (kind r + 1) h, and-false, and-false))
 
     behind-record : kind r ≤ 4 → good_record (5 - kind r) r ≡ true → next ≤ kind r + 1 → Behind s last (at - 12) (kind r) n
@@ -282,7 +280,7 @@ module _ {s : List ℕ} {last at next n : ℕ} (p : Behind s last at next n) (l 
           go true f = let z = eqb-true j 0 f in eq-eqb (at - (at - 12 * j)) 0 (omega arith)
           go false f = let z = eqb-false j 0 f in ne_eqb (at - (at - 12 * j)) 0 (λ y. omega arith)
 
-  pub first-atom : from ≡ 0 → Refused BrokenLayout ≡ counted (chunks (last / 12) s)
+  pub first-atom : from ≡ 0 → Err BrokenLayout ≡ counted (chunks (last / 12) s)
   first-atom z = first_kind behind-run (omega arith) (rw (ne_eqb (at - from) 0 (λ y. omega arith)) (omega arith))
 
   module _ (some : from ≡ 0 → ⊥) where
@@ -303,7 +301,7 @@ module _ {s : List ℕ} {last at next n : ℕ} (p : Behind s last at next n) (l 
         (record-length s from more behind-run.starts (omega arith), omega arith)
 
     -- an atom that was not passed is a bad one
-    pub atom-bad : 4 < get_or s (from - 12) 0 → Refused BrokenLayout ≡ counted (chunks (last / 12) s)
+    pub atom-bad : 4 < get_or s (from - 12) 0 → Err BrokenLayout ≡ counted (chunks (last / 12) s)
     atom-bad m =
         let k = kind-read in
         let i : at - 12 * j ≡ from = omega arith in
@@ -314,11 +312,11 @@ module _ {s : List ℕ} {last at next n : ℕ} (p : Behind s last at next n) (l 
         go true h = absurd (omega arith)
         go false h = refl
 
-    pub kind-jumps : {f : ℕ} → f ≡ cond (eqb (at - from) 0) next 5 → get_or s (from - 12) 0 + 1 < f → Refused BrokenLayout ≡ counted (chunks (last / 12) s)
+    pub kind-jumps : {f : ℕ} → f ≡ cond (eqb (at - from) 0) next 5 → get_or s (from - 12) 0 + 1 < f → Err BrokenLayout ≡ counted (chunks (last / 12) s)
     kind-jumps {f} g h = let k = kind-read in kind-bad behind-run more (omega (arith, g))
 
     module _ {t : Bool} (good : t ≡ good_record (5 - kind above) above) where
-      pub record-not : t ≡ false → Refused BrokenLayout ≡ counted (chunks (last / 12) s)
+      pub record-not : t ≡ false → Err BrokenLayout ≡ counted (chunks (last / 12) s)
       record-not h = record-bad behind-run more (sym good ∙ h)
 
       pub behind-next : {f : ℕ} → get_or s (from - 12) 0 ≤ 4 → f ≡ cond (eqb (at - from) 0) next 5 → f ≤ get_or s (from - 12) 0 + 1 → t ≡ true → Behind s last (from - 12) (get_or s (from - 12) 0) (n + (at - from) / 12)
@@ -335,50 +333,50 @@ long-length n h = rw (lt-leb n 1200001 h, and-false)
 fair-length : (n : ℕ) → 1 ≤ n → n ≤ 1200001 → good_length n ≡ true
 fair-length n h g = rw (le-leb 1 n h, le-leb n 1200001 g)
 
-counted-good : (rs : List Words) → in_order 0 rs ≡ true → counted rs ≡ Good (stored (group 4 rs))
+counted-good : (rs : List Words) → in_order 0 rs ≡ true → counted rs ≡ Ok (stored (group 4 rs))
 unfolding counted
 counted-good rs o = rw (o, atoms-grouped rs o)
 
-counted-bad : (rs : List Words) → in_order 0 rs ≡ false → counted rs ≡ Refused BrokenLayout
+counted-bad : (rs : List Words) → in_order 0 rs ≡ false → counted rs ≡ Err BrokenLayout
 unfolding counted
 counted-bad rs o = rw o
 
-pub check-short : (w : List ℕ) → length w < 1 → Refused BadLength ≡ checked_by (read_store w)
+pub check-short : (w : List ℕ) → length w < 1 → Err BadLength ≡ checked_by (read_store w)
 unfolding read_store
 check-short w h = rw (short-length (length w) h)
 
-pub check-long : (w : List ℕ) → 1200001 < length w → Refused BadLength ≡ checked_by (read_store w)
+pub check-long : (w : List ℕ) → 1200001 < length w → Err BadLength ≡ checked_by (read_store w)
 unfolding read_store
 check-long w h = rw (long-length (length w) h)
 
 module _ (w : List ℕ) (some : 1 ≤ length w) (room : length w ≤ 1200001) where
-  broken : good_layout w ≡ false → Refused BrokenLayout ≡ checked_by (read_store w)
+  broken : good_layout w ≡ false → Err BrokenLayout ≡ checked_by (read_store w)
   unfolding read_store
   broken h = rw (fair-length (length w) some room, h)
 
-  held : good_layout w ≡ true → Good (stored (group 4 (records_of w))) ≡ checked_by (read_store w)
+  held : good_layout w ≡ true → Ok (stored (group 4 (records_of w))) ≡ checked_by (read_store w)
   unfolding read_store
   held h = rw (fair-length (length w) some room, h)
 
-  unordered : in_order 0 (records_of w) ≡ false → Refused BrokenLayout ≡ checked_by (read_store w)
+  unordered : in_order 0 (records_of w) ≡ false → Err BrokenLayout ≡ checked_by (read_store w)
   unfolding good_layout
   unordered h = broken (rw (h, and-false, and-false))
 
-  pub check-past : length w - 1 < end w → Refused BrokenLayout ≡ checked_by (read_store w)
+  pub check-past : length w - 1 < end w → Err BrokenLayout ≡ checked_by (read_store w)
   unfolding good_layout
   check-past h = broken (rw (lt-leb (end w) (length w - 1) h, and-false))
 
   module _ (low : end w ≤ length w - 1) where
-    pub check-uneven : (end w % 12 ≡ 0 → ⊥) → Refused BrokenLayout ≡ checked_by (read_store w)
+    pub check-uneven : (end w % 12 ≡ 0 → ⊥) → Err BrokenLayout ≡ checked_by (read_store w)
     unfolding good_layout
     check-uneven h = broken (rw (ne_eqb (end w % 12) 0 h))
 
     module _ (even : end w % 12 ≡ 0) where
-      pub check-gap : {t : Bool} → t ≡ all (eqb 0) (gap w) → t ≡ false → Refused BrokenLayout ≡ checked_by (read_store w)
+      pub check-gap : {t : Bool} → t ≡ all (eqb 0) (gap w) → t ≡ false → Err BrokenLayout ≡ checked_by (read_store w)
       unfolding good_layout
       check-gap e h = broken (rw (← e, h, and-false))
 
-      pub check-all : {t : Bool} {r : Checked} → t ≡ all (eqb 0) (gap w) → t ≡ true → r ≡ counted (records_of w) → r ≡ checked_by (read_store w)
+      pub check-all : {t : Bool} {r : Result ℕ} → t ≡ all (eqb 0) (gap w) → t ≡ true → r ≡ counted (records_of w) → r ≡ checked_by (read_store w)
       check-all e h q = q ∙ go (in_order 0 (records_of w)) refl
         where
           go : (b : Bool) → in_order 0 (records_of w) ≡ b → counted (records_of w) ≡ checked_by (read_store w)
@@ -387,11 +385,11 @@ module _ (w : List ℕ) (some : 1 ≤ length w) (room : length w ≤ 1200001) wh
 
 -- ---- opening
 
-pub open-short : (w : List ℕ) → length w < 1 → (opened_numbers (Opened.TheVariants.Refused BadLength), w) ≡ open_run w
+pub open-short : (w : List ℕ) → length w < 1 → (opened_numbers (Err BadLength), w) ≡ open_run w
 unfolding open_run
 open-short w h = rw (short-length (length w) h)
 
-pub open-long : (w : List ℕ) → 1200001 < length w → (opened_numbers (Opened.TheVariants.Refused BadLength), w) ≡ open_run w
+pub open-long : (w : List ℕ) → 1200001 < length w → (opened_numbers (Err BadLength), w) ≡ open_run w
 unfolding open_run
 open-long w h = rw (long-length (length w) h)
 
@@ -399,7 +397,7 @@ over-whole : (w b : List ℕ) → length b ≡ length w → over 0 b w ≡ b
 unfolding over
 over-whole w b h = let l : length w ≤ 0 + length b = omega arith in rw (drop_of_length-le w l) (append-nil b)
 
-pub open_done : (w s : List ℕ) → 1 ≤ length w → length w ≤ 1200001 → s ≡ over 0 (replicate (length w) 0) w → (opened_numbers Opened.TheVariants.Done, s) ≡ open_run w
+pub open_done : (w s : List ℕ) → 1 ≤ length w → length w ≤ 1200001 → s ≡ over 0 (replicate (length w) 0) w → (opened_numbers (Ok tt), s) ≡ open_run w
 unfolding open_run
 open_done w s h g e =
     rw (fair-length (length w) h g, e, over-whole w (replicate (length w) 0) (length-replicate (length w) 0))

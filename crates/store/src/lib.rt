@@ -7,14 +7,7 @@ ghost use Rattle.machine.specs.Answer.{opened_numbers};
 ghost use Rattle.machine.specs.Store.{chunks, read_store, open_run};
 ghost use Rattle.store.specs.Store.{checked_by, counted, trailing_atoms};
 
-use machine::{Opened, Record, Refusal};
-
-// How many atoms a store holds, or why its words are refused.
-#[derive(Clone, Copy)]
-pub enum Checked {
-    Good(u64),
-    Refused(Refusal),
-}
+use machine::{Record, Refusal};
 
 // Where the good atoms that stand last before word `to` begin. Nearly all records are passed here.
 fn atoms_start(store: &[u64], to: usize) -> usize
@@ -44,7 +37,7 @@ fn following(next: u64, run: usize) -> u64
 
 // "The first kind is 1; each later kind is 1 to 5 and at most the previous plus 1." From the last record to the first: what is read
 // last here is what a search reads first. Past a run of good atoms, an atom is a bad one. The atoms are counted on the way.
-fn check_records(store: &[u64], end: usize) -> Checked
+fn check_records(store: &[u64], end: usize) -> Result<u64, Refusal>
     requires { (end ≤ length store.now) × (end % 12 ≡ 0) }
     ensures { result ≡ counted (chunks (end / 12) store.now) }
 {
@@ -54,80 +47,72 @@ fn check_records(store: &[u64], end: usize) -> Checked
     while 0 < at {
         let from = atoms_start(store, at);
         if from == 0 {
-            return Checked::Refused(Refusal::BrokenLayout);
+            return Err(Refusal::BrokenLayout);
         }
         let k = store[from - Record::WIDTH];
         if Record::CONFORMER < k {
-            return Checked::Refused(Refusal::BrokenLayout);
+            return Err(Refusal::BrokenLayout);
         }
         if k + 1 < following(next, at - from) {
-            return Checked::Refused(Refusal::BrokenLayout);
+            return Err(Refusal::BrokenLayout);
         }
         if records::good_record(&store[from - Record::WIDTH..from]) {
             atoms += ((at - from) / Record::WIDTH) as u64;
             next = k;
             at = from - Record::WIDTH;
         } else {
-            return Checked::Refused(Refusal::BrokenLayout);
+            return Err(Refusal::BrokenLayout);
         }
     }
     if Record::MODEL < next {
-        return Checked::Refused(Refusal::BrokenLayout);
+        return Err(Refusal::BrokenLayout);
     }
-    Checked::Good(atoms)
+    Ok(atoms)
 }
 
 fn all_zero(s: &[u64]) -> bool
     ensures { result ≡ all (eqb 0) s.now }
 {
-    let mut i: usize = 0;
-    while i < s.len() {
-        if s[i] == 0 {
-            i += 1;
-        } else {
-            return false;
-        }
-    }
-    true
+    s.iter().all(|word| *word == 0)
 }
 
-// One pass over the words: 1 bad length; 2 layout broken.
-pub fn check(store: &[u64]) -> Checked
+// How many atoms a store holds, in one pass over its words, or why it is none: 1 bad length; 2 layout broken.
+pub fn check(store: &[u64]) -> Result<u64, Refusal>
     ensures { result ≡ checked_by (read_store store.now) }
 {
     let n = store.len();
     if n < 1 {
-        return Checked::Refused(Refusal::BadLength);
+        return Err(Refusal::BadLength);
     }
     if 1200001 < n {
-        return Checked::Refused(Refusal::BadLength);
+        return Err(Refusal::BadLength);
     }
     let last = n - 1;
     let end = store[last] as usize;
     if last < end {
-        return Checked::Refused(Refusal::BrokenLayout);
+        return Err(Refusal::BrokenLayout);
     }
     if end % Record::WIDTH != 0 {
-        return Checked::Refused(Refusal::BrokenLayout);
+        return Err(Refusal::BrokenLayout);
     }
     if all_zero(&store[end..last]) {
         check_records(store, end)
     } else {
-        Checked::Refused(Refusal::BrokenLayout)
+        Err(Refusal::BrokenLayout)
     }
 }
 
 // Opening sets every word to 0, and refuses only with 1.
-pub fn open(store: &mut [u64]) -> Opened
+pub fn open(store: &mut [u64]) -> Result<(), Refusal>
     ensures { (opened_numbers result, store.new) ≡ open_run store.old }
 {
     let n = store.len();
     if n < 1 {
-        return Opened::Refused(Refusal::BadLength);
+        return Err(Refusal::BadLength);
     }
     if 1200001 < n {
-        return Opened::Refused(Refusal::BadLength);
+        return Err(Refusal::BadLength);
     }
     moves::clear(store, 0, n);
-    Opened::Done
+    Ok(())
 }

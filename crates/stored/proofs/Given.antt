@@ -6,8 +6,8 @@ use mathlib.Core.List.{List, [], ◌∷◌}
 use native.Mathlib.Omega.{arith}
 use lib.ListN.{length, get_or}
 use lib.Dec.{eqb}
-use borrow.Author.Tests.{eq-eqb, ne_eqb, lt-ltb, le-ltb}
-use Rattle.machine.specs.Text.{pack, unpacked, before_zeros, without_zeros, text_of, matches, matches_optional}
+use borrow.Author.Tests.{eq-eqb, ne_eqb}
+use Rattle.machine.specs.Text.{pack, unpacked, before_zeros, without_zeros, text_of, matches}
 use Rattle.laws.specs.Packing.{length-text_of, Bytes, text-packed}
 use Rattle.laws.specs.Text.{matches-kept, matches-none}
 use Rattle.helper.proofs.Laws.{any-byte}
@@ -53,7 +53,7 @@ without_zeros-closed (b ∷ c ∷ cs) h = rw (without_zeros-closed (c ∷ cs) h,
 module _ (t : List ℕ) (w : ℕ) where
   pub match_none : length t < 1 → false ≡ matches t w
   unfolding matches
-  match_none h = rw (any-byte t, le-ltb 0 (length t) (omega arith))
+  match_none h = let z : length t ≡ 0 = omega arith in rw (any-byte t, eq-eqb (length t) 0 z)
 
   pub match-long : 8 < length t → false ≡ matches t w
   match-long h = sym (matches-none t w (λ e. omega (arith, length-text_of w, ap length e)))
@@ -69,11 +69,4 @@ module _ (t : List ℕ) (w : ℕ) where
   match-word p b h l z e =
       let k : closed t ≡ true = closed-last t h ∙ rw (ne_eqb (get_or t (length t - 1) 0) 0 z) in
       let o : text_of (pack t) ≡ t = text-packed 8 t l b ∙ without_zeros-closed t k in
-      rw e (sym (matches-kept t w o (any-byte t ∙ lt-ltb 0 (length t) h)))
-
-  module _ (flag : ℕ) where
-    pub optional-absent : flag ≡ 0 → eqb w 0 ≡ matches_optional (record { flag = flag; text = t }) w
-    optional-absent h = rw (eq-eqb flag 0 h)
-
-    pub optional-given : (r : Bool) → (flag ≡ 0 → ⊥) → r ≡ matches t w → r ≡ matches_optional (record { flag = flag; text = t }) w
-    optional-given r h e = rw (ne_eqb flag 0 h) e
+      rw e (sym (matches-kept t w o (any-byte t ∙ ap not (ne_eqb (length t) 0 (omega arith)))))

@@ -3,10 +3,11 @@ use Prim.Native.Nat.{ℕ, zero, suc, ◌+◌, ◌-◌, ◌*◌, ◌/◌, ◌%◌
 use mathlib.Core.Path.{◌≡◌, refl, sym, ap, ◌∙◌}
 use mathlib.Core.Bool.{Bool, true, false, cond, not, ◌&&◌, ◌||◌, false≢true, and-false, and-true}
 use mathlib.Core.List.{List, [], ◌∷◌, ◌++◌, map, reverse, reverse-cons, reverse-reverse}
-use native.Mathlib.Nat.{add-zero, zero-add, zero-mul, one-le-pow, pow-suc, suc-mul, mul-div_cancel, mul-le-mul_right, div-add-mod', mod-lt, mod-one, zero-mod}
+use native.Mathlib.Nat.{one-mul, add-zero, zero-add, zero-mul, one-le-pow, pow-suc, suc-mul, mul-le-mul_right, div-add-mod', mod-lt, zero-mod}
 use native.Mathlib.Omega.{arith}
 use lib.ListN.{length}
-use lib.Dec.{leb, ltb, eqb}
+use lib.Dec.{leb, ltb, eqb, lit<}
+use lib.Pow.{pow-add, pow_mono, shl_exact}
 use borrow.Author.Tests.{eq-eqb, ne_eqb, eqb-true, eqb-false, le-leb, lt-leb, lt-ltb, le-ltb, leb-true, leb-false}
 use Rattle.machine.specs.Lists.{all, is_empty}
 use Rattle.machine.specs.Text.{packed, pack, unpacked, before_zeros, without_zeros, text_of, plain, blank, to_upper, trim_start, trim, fit, chain_id, uppercase_or, insertion_code, conformer_name, alternative_location, atom_name, stores, stored_by, absent_or, packed_text}
@@ -20,52 +21,59 @@ use Rattle.stored.specs.Word.{stored_byte, stored_text}
 
 -- ---- the code's tests, unfolded
 
+not-false : (a : Bool) → not a ≡ true → a ≡ false
+not-false true h = absurd (false≢true h)
+not-false false h = refl
+
+not-true : (a : Bool) → not a ≡ false → a ≡ true
+not-true true h = refl
+not-true false h = absurd (false≢true (sym h))
+
+-- what a byte with n after it is worth
+byte-unit : (n : ℕ) → 2 ^ (8 * n) ≡ 256 ^ n
+byte-unit zero = refl
+byte-unit (suc n) =
+    let e : 8 * suc n ≡ 8 * n + 8 = omega arith in
+    rw (e, pow-add 2 (8 * n) 8, byte-unit n, pow-suc 256 n)
+
+shifted-unit : (n : ℕ) → n ≤ 7 → 1 * 2 ^ (8 * n) % 18446744073709551616 ≡ 256 ^ n
+shifted-unit n h = shl_exact 1 (8 * n) 64 (lit< tt) (omega arith) ∙ rw (one-mul (2 ^ (8 * n)), byte-unit n)
+
+pub unit-fits : (n : ℕ) → n ≤ 8 → (1 ≤ 1 * 2 ^ (8 * (n - 1)) % 18446744073709551616) × (1 * 2 ^ (8 * (n - 1)) % 18446744073709551616 ≤ 2 ^ 56)
+unit-fits n h =
+    let e = shifted-unit (n - 1) (omega arith) in
+    rw e (one-le-pow (n - 1) 256 (omega arith), rw (← byte-unit (n - 1)) (pow_mono {i = 8 * (n - 1)} {j = 56} (omega arith)))
+
 module _ (low : ℕ) (up : Bool) where
   stored_text-zero : (n : ℕ) → stored_text low up n 0 ≡ true
   unfolding stored_text stored_byte
   stored_text-zero zero = refl
   stored_text-zero (suc n) = rw (zero-mod (256 ^ n)) (stored_text-zero n)
 
--- `stored_text`: what is left of w is the number rest, of which unless it is 0 the first byte is worth unit
-pub record TextLeft (low : ℕ) (up : Bool) (w rest unit : ℕ) : Type 0 where
-  n : ℕ
-  worth : 0 < rest → unit ≡ 256 ^ n
-  pub fits : unit ≤ 2 ^ 56
-  same : stored_text low up 8 w ≡ stored_text low up (suc n) rest
+-- `stored_text`: n bytes are left, the number rest
+module _ (low : ℕ) (up : Bool) (w rest n : ℕ) (e : stored_text low up 8 w ≡ stored_text low up n rest) where
+  pub text-done : rest ≡ 0 → true ≡ stored_text low up 8 w
+  text-done z = sym (e ∙ rw z (stored_text-zero low up n))
 
-module _ (low : ℕ) (up : Bool) (w : ℕ) where
-  pub text-begin : TextLeft low up w w 0x100_0000_0000_0000
-  text-begin = record { n = 7; worth = λ h. refl; fits = omega arith; same = refl }
+  pub text-all : n ≤ 0 → true ≡ stored_text low up 8 w
+  unfolding stored_text
+  text-all h = let z : n ≡ 0 = omega arith in sym (e ∙ rw z)
 
-  module _ {rest unit : ℕ} (t : TextLeft low up w rest unit) where
-    pub text-done : rest ≡ 0 → true ≡ stored_text low up 8 w
-    text-done z = sym (t.same ∙ rw z (stored_text-zero low up (suc t.n)))
+  abbrev unit : ℕ
+  unit = 1 * 2 ^ (8 * (n - 1)) % 18446744073709551616
 
-    pub text-all : unit ≤ 0 → true ≡ stored_text low up 8 w
-    text-all h = go (leb rest 0) refl
-      where
-        go : (b : Bool) → leb rest 0 ≡ b → true ≡ stored_text low up 8 w
-        go true e = let l = leb-true rest 0 e in text-done (omega arith)
-        go false e = let m = leb-false rest 0 e in absurd (omega (arith, t.worth m, one-le-pow t.n 256 (omega arith)))
+  module _ (some : 0 < n) (h : n ≤ 8) (b : Bool) (byte : b ≡ stored_byte low up rest unit) where
+    text-next : stored_text low up 8 w ≡ (b && stored_text low up (n - 1) (rest % unit))
+    unfolding stored_text
+    text-next =
+        let s : n ≡ suc (n - 1) = omega arith in
+        e ∙ ap (λ (m : ℕ). stored_text low up m rest) s ∙ rw (byte, shifted-unit (n - 1) (omega arith))
 
-    module _ (some : rest ≡ 0 → ⊥) {b : Bool} (e : b ≡ stored_byte low up rest unit) where
-      worth : unit ≡ 256 ^ t.n
-      worth = t.worth (omega arith)
+    pub text-not : not b ≡ true → false ≡ stored_text low up 8 w
+    text-not f = sym (text-next ∙ rw (not-false b f))
 
-      byte : stored_byte low up rest (256 ^ t.n) ≡ b
-      byte = rw (← worth) (sym e)
-
-      pub text-not : b ≡ false → false ≡ stored_text low up 8 w
-      unfolding stored_text
-      text-not f = sym (t.same ∙ rw (byte, f))
-
-      pub text-again : b ≡ true → TextLeft low up w (rest % unit) (unit / 256)
-      unfolding stored_text
-      text-again f = rw worth (go t.n (t.same ∙ rw (byte, f)) (rw (← worth) t.fits))
-        where
-          go : (n : ℕ) → stored_text low up 8 w ≡ stored_text low up n (rest % 256 ^ n) → 256 ^ n ≤ 2 ^ 56 → TextLeft low up w (rest % 256 ^ n) (256 ^ n / 256)
-          go zero s l = record { n = zero; worth = λ h. absurd (omega (arith, mod-one rest)); fits = omega arith; same = s ∙ sym (ap (stored_text low up 1) (mod-one rest) ∙ stored_text-zero low up 1) }
-          go (suc n) s l = record { n = n; worth = λ h. rw (pow-suc 256 n) (mul-div_cancel (256 ^ n) (omega arith)); fits = omega arith; same = s }
+    pub text-again : not b ≡ false → stored_text low up 8 w ≡ stored_text low up (n - 1) (rest % unit)
+    text-again f = text-next ∙ rw (not-true b f)
 
 -- `stored_byte`: below a, a to z, and above
 module _ (low : ℕ) (up : Bool) (rest unit : ℕ) where
@@ -414,10 +422,6 @@ stored_by-rule : (rule : List ℕ → Prepared) (w : ℕ) → stored_by rule w �
 unfolding stored_by
 stored_by-rule rule w h = stores-true (rule (text_of w)) w h
 
-not-false : (a : Bool) → not a ≡ true → a ≡ false
-not-false true h = absurd (false≢true h)
-not-false false h = refl
-
 chain-passes : (w : ℕ) → chain_id (text_of w) ≡ Stored w → Passes false w
 unfolding chain_id
 chain-passes w e =
@@ -458,12 +462,6 @@ module _ (other : Prepared) (w : ℕ) (n : (v : ℕ) → other ≡ Stored v → 
 
 pub name-stored : (w : ℕ) (k : Bool) → k ≡ stored_text 1 true 8 w → leb 0x2100_0000_0000_0000 w && k ≡ stored_by conformer_name w
 name-stored w k e = rw e (uppercase_or-stored Bad w bad-stores-none)
-
-pub code-absent : (w : ℕ) → w ≡ 0 → true ≡ absent_or insertion_code w
-code-absent w h = rw (eq-eqb w 0 h)
-
-pub code-stored : (w : ℕ) (r : Bool) → (w ≡ 0 → ⊥) → r ≡ stored_by conformer_name w → r ≡ absent_or insertion_code w
-code-stored w r h e = rw (ne_eqb w 0 h) e
 
 pub location-stored : (w : ℕ) (r : Bool) → r ≡ absent_or insertion_code w → r ≡ absent_or alternative_location w
 location-stored w r e = e ∙ ap (λ (x : Bool). eqb w 0 || x) (sym (uppercase_or-stored Bad w bad-stores-none) ∙ uppercase_or-stored Absent w absent-stores-none)

@@ -12,18 +12,10 @@ ghost use Rattle.stored.specs.Word.{stored_byte, stored_text};
 pub fn same_text(text: &[u8], stored: u64) -> bool
     ensures { result ≡ matches text.now stored }
 {
-    let n = text.len();
-    if n < 1 {
+    if let [] | [.., 0] = text {
         return false;
     }
-    if 8 < n {
-        return false;
-    }
-    if text[n - 1] == 0 {
-        return false;
-    }
-    let w = helper::pack_text(text, false);
-    w == stored
+    text.len() <= 8 && helper::pack_text(text, false) == stored
 }
 
 // An absent text matches what is stored as absent.
@@ -31,9 +23,10 @@ pub fn same_optional(flag: u64, text: &[u8], stored: u64) -> bool
     ensures { result ≡ matches_optional (record { flag = flag; text = text.now }) stored }
 {
     if flag == 0 {
-        return stored == 0;
+        stored == 0
+    } else {
+        same_text(text, stored)
     }
-    same_text(text, stored)
 }
 
 // ---- stored and packed forms
@@ -45,31 +38,29 @@ fn stored_byte(low: u64, up: bool, rest: u64, unit: u64) -> bool
     ensures { result ≡ stored_byte low up rest unit }
 {
     if rest < 97 * unit {
-        return (rest == 0) | (32 * unit + low <= rest);
+        (rest == 0) | (32 * unit + low <= rest)
+    } else if rest < 123 * unit {
+        !up
+    } else {
+        rest < 127 * unit
     }
-    if rest < 123 * unit {
-        return !up;
-    }
-    rest < 127 * unit
 }
 
-// Tests all eight bytes. The loop goes by what a byte is worth and not by what is left, so the compiler knows its turns and needs no division.
+// Tests all eight bytes. The loop goes by a byte's place and not by what is left, so the compiler knows its turns and needs no division.
 fn stored_text(low: u64, up: bool, w: u64) -> bool
     requires { low ≤ 1 }
     ensures { result ≡ stored_text low up 8 w }
 {
     let mut rest = w;
-    let mut unit: u64 = 0x100_0000_0000_0000;
-    while 0 < unit {
+    for n in (0u32..8).rev() {
         if rest == 0 {
             return true;
         }
-        if stored_byte(low, up, rest, unit) {
-            rest = rest % unit;
-            unit = unit / 256;
-        } else {
+        let unit = 1u64 << (8 * n);
+        if !stored_byte(low, up, rest, unit) {
             return false;
         }
+        rest %= unit;
     }
     true
 }
@@ -97,10 +88,7 @@ pub fn stored_name(w: u64) -> bool
 pub fn stored_code(w: u64) -> bool
     ensures { result ≡ absent_or insertion_code w }
 {
-    if w == 0 {
-        return true;
-    }
-    stored_name(w)
+    w == 0 || stored_name(w)
 }
 
 pub fn stored_location(w: u64) -> bool

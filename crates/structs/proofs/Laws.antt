@@ -1,4 +1,8 @@
 -- An edit after the layout check: what a refused store answers, and what the cores' contracts say of a call. Assumes nothing.
+use Rattle.std.specs.Prelude.{Err, IsErrAnd, Option}
+use Rattle.laws.specs.Exits.{exit-err}
+use Rattle.machine.specs.declared.Edited.{Edited}
+use Rattle.machine.specs.declared.RecordNumbers.{RecordNumbers}
 use Prim.Native.Nat.{ℕ}
 use mathlib.Core.Path.{◌≡◌, sym, ◌∙◌}
 use mathlib.Core.List.{List, [], ◌∷◌}
@@ -38,12 +42,9 @@ use Rattle.machine.specs.Edit.{
 }
 use Rattle.machine.specs.Lookup.{lookup_run}
 use Rattle.machine.specs.declared.Refusal.{Refusal}
-use Rattle.machine.specs.declared.Edited as Edited
-use Rattle.machine.specs.declared.LookedUp as LookedUp
 use Rattle.machine.specs.declared.PreparedAddition.{PreparedAddition}
 use Rattle.store.specs.Store.{checked_by}
 use Rattle.store.proofs.Laws.{refused-step, refused-lookup}
-use Rattle.store.specs.declared.Checked as Checked
 use Rattle.seek.specs.Seek.{held, Good}
 use Rattle.removals.specs.Removal.{removal}
 use Rattle.removals.specs.Named.{chain_by_id, residue_by_id, conformer_by_id, atom_by_serial_number}
@@ -53,16 +54,17 @@ use Rattle.lookup.specs.Level as Level
 
 -- ---- on a refused store
 
-module _ {c : Checked.Checked} {r : Refusal} (w : List ℕ) (h : c ≡ checked_by (read_store w)) (e : c ≡ Checked.TheVariants.Refused r) where
-  pub refused-by : (step : Machine → Result Change) → (edited_numbers (Edited.TheVariants.Refused r), w) ≡ step_by w step
-  refused-by step = sym (refused-step w (sym e ∙ h) step)
+module _ {c : Result ℕ} {r : Refusal} (w : List ℕ) (h : c ≡ checked_by (read_store w)) (e : c ≡ Err r) where
+  module _ (a : Result Edited) (out : IsErrAnd a (λ x. x ≡ r)) where
+    pub refused-by : (step : Machine → Result Change) → (edited_numbers a, w) ≡ step_by w step
+    refused-by step = rw (exit-err a r out) (sym (refused-step w (sym e ∙ h) step))
 
-  pub refused-call : (call : Call) → (edited_numbers (Edited.TheVariants.Refused r), w) ≡ store_step w call
-  unfolding store_step
-  refused-call call = refused-by (λ m. machine_step (length w) m call)
+    pub refused-call : (call : Call) → (edited_numbers a, w) ≡ store_step w call
+    unfolding store_step
+    refused-call call = refused-by (λ m. machine_step (length w) m call)
 
-  pub refused-looked-up : (serial : ℕ) (location : Optional) → looked_up_numbers (LookedUp.TheVariants.Refused r) ≡ lookup_run w serial location
-  refused-looked-up serial location = sym (refused-lookup w (sym e ∙ h) serial location)
+  pub refused-looked-up : (a : Result (Option RecordNumbers)) → IsErrAnd a (λ x. x ≡ r) → (serial : ℕ) (location : Optional) → looked_up_numbers a ≡ lookup_run w serial location
+  refused-looked-up a out serial location = rw (exit-err a r out) (sym (refused-lookup w (sym e ∙ h) serial location))
 
 -- ---- on a good store
 

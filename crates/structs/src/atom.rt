@@ -3,8 +3,7 @@ ghost use Rattle.std.specs.Prelude.{◌≡◌};
 ghost use Rattle.machine.specs.Answer.{edited_numbers};
 ghost use Rattle.machine.specs.Edit.{store_step, SetElement};
 
-use machine::Edited;
-use store::Checked;
+use machine::{Edited, Refusal};
 
 // Change request §6: sets an element that is missing.
 pub fn set_element(
@@ -15,15 +14,10 @@ pub fn set_element(
     conformer: u64,
     atom: u64,
     element: u64,
-) -> Edited
+) -> Result<Edited, Refusal>
     ensures { (edited_numbers result, store.new) ≡ store_step store.old (SetElement model chain residue conformer atom element) }
 {
-    let checked = store::check(store);
-    match checked {
-        Checked::Refused(refusal) => Edited::Refused(refusal),
-        Checked::Good(_atoms) => {
-            let position = [model, chain, residue, conformer, atom];
-            settings::set_element(store, &position, element)
-        }
-    }
+    store::check(store)?;
+    let position = [model, chain, residue, conformer, atom];
+    settings::set_element(store, &position, element)
 }

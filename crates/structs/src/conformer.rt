@@ -1,12 +1,11 @@
 // After conformer.rs.
 ghost use Rattle.std.specs.Prelude.{◌≡◌, [], ◌∷◌};
-ghost use Rattle.machine.specs.Answer.{edited_numbers, found_numbers};
+ghost use Rattle.machine.specs.Answer.{edited_numbers, counted_numbers};
 ghost use Rattle.machine.specs.Edit.{store_step, RemoveAtom, RemoveAtomBySerialNumber, JoinConformers};
 ghost use Rattle.machine.specs.Find.{find_from};
 
 use super::positions;
-use machine::{Edited, Found};
-use store::Checked;
+use machine::{Edited, Refusal};
 
 // The hits of a tree among the atoms below, change request §4.
 pub fn find(
@@ -17,8 +16,8 @@ pub fn find(
     conformer: u64,
     tree: &[u64],
     out: &mut [u64],
-) -> Found
-    ensures { (found_numbers result, out.new)
+) -> Result<u64, Refusal>
+    ensures { (counted_numbers result, out.new)
         ≡ find_from store.now (model ∷ chain ∷ residue ∷ conformer ∷ []) tree.now out.old }
 {
     let start = [model, chain, residue, conformer];
@@ -32,7 +31,7 @@ pub fn remove_atom(
     residue: u64,
     conformer: u64,
     atom: u64,
-) -> Edited
+) -> Result<Edited, Refusal>
     ensures { (edited_numbers result, store.new) ≡ store_step store.old (RemoveAtom model chain residue conformer atom) }
 {
     let position = [model, chain, residue, conformer, atom];
@@ -46,16 +45,11 @@ pub fn remove_atom_by_serial_number(
     residue: u64,
     conformer: u64,
     serial: u64,
-) -> Edited
+) -> Result<Edited, Refusal>
     ensures { (edited_numbers result, store.new) ≡ store_step store.old (RemoveAtomBySerialNumber model chain residue conformer serial) }
 {
-    let checked = store::check(store);
-    match checked {
-        Checked::Refused(refusal) => Edited::Refused(refusal),
-        Checked::Good(_atoms) => {
-            removals::remove_atom_by_serial_number(store, model, chain, residue, conformer, serial)
-        }
-    }
+    store::check(store)?;
+    removals::remove_atom_by_serial_number(store, model, chain, residue, conformer, serial)
 }
 
 pub fn join(
@@ -68,7 +62,7 @@ pub fn join(
     second_chain: u64,
     second_residue: u64,
     second_conformer: u64,
-) -> Edited
+) -> Result<Edited, Refusal>
     ensures { (edited_numbers result, store.new)
         ≡ store_step store.old (JoinConformers model chain residue conformer second_model second_chain second_residue second_conformer) }
 {

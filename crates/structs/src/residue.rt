@@ -1,13 +1,12 @@
 // After residue.rs.
 ghost use Rattle.std.specs.Prelude.{◌≡◌, [], ◌∷◌};
-ghost use Rattle.machine.specs.Answer.{edited_numbers, found_numbers};
+ghost use Rattle.machine.specs.Answer.{edited_numbers, counted_numbers};
 ghost use Rattle.machine.specs.Text.{optional_of};
 ghost use Rattle.machine.specs.Edit.{store_step, RemoveConformer, RemoveConformerById, JoinResidues};
 ghost use Rattle.machine.specs.Find.{find_from};
 
 use super::positions;
-use machine::{Edited, Found};
-use store::Checked;
+use machine::{Edited, Refusal};
 
 // The hits of a tree among the atoms below, change request §4.
 pub fn find(
@@ -17,8 +16,8 @@ pub fn find(
     residue: u64,
     tree: &[u64],
     out: &mut [u64],
-) -> Found
-    ensures { (found_numbers result, out.new)
+) -> Result<u64, Refusal>
+    ensures { (counted_numbers result, out.new)
         ≡ find_from store.now (model ∷ chain ∷ residue ∷ []) tree.now out.old }
 {
     let start = [model, chain, residue];
@@ -31,7 +30,7 @@ pub fn remove_conformer(
     chain: u64,
     residue: u64,
     conformer: u64,
-) -> Edited
+) -> Result<Edited, Refusal>
     ensures { (edited_numbers result, store.new) ≡ store_step store.old (RemoveConformer model chain residue conformer) }
 {
     let position = [model, chain, residue, conformer];
@@ -47,17 +46,12 @@ pub fn remove_conformer_by_id(
     name: &[u8],
     flag: u64,
     location: &[u8],
-) -> Edited
+) -> Result<Edited, Refusal>
     ensures { (edited_numbers result, store.new)
         ≡ store_step store.old (RemoveConformerById model chain residue name.now (optional_of flag location.now)) }
 {
-    let checked = store::check(store);
-    match checked {
-        Checked::Refused(refusal) => Edited::Refused(refusal),
-        Checked::Good(_atoms) => {
-            removals::remove_conformer_by_id(store, model, chain, residue, name, flag, location)
-        }
-    }
+    store::check(store)?;
+    removals::remove_conformer_by_id(store, model, chain, residue, name, flag, location)
 }
 
 pub fn join(
@@ -68,7 +62,7 @@ pub fn join(
     second_model: u64,
     second_chain: u64,
     second_residue: u64,
-) -> Edited
+) -> Result<Edited, Refusal>
     ensures { (edited_numbers result, store.new)
         ≡ store_step store.old (JoinResidues model chain residue second_model second_chain second_residue) }
 {

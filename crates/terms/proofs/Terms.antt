@@ -1,10 +1,10 @@
 -- Which level a term asks for, and its value where that level alone is known, or is not. Assumes nothing.
+use Rattle.std.specs.Prelude.{None, Option, Some}
 use Prim.Native.Nat.{ℕ, zero, suc}
 use mathlib.Core.Path.{◌≡◌, refl, sym, ap, ◌∙◌}
 use mathlib.Core.Bool.{Bool, true, false, not, ◌&&◌, ◌||◌, cond, false≢true}
 use mathlib.Core.List.{List, [], ◌∷◌}
 use mathlib.Core.Logic.{inl, inr}
-use mathlib.Core.Option.{Option, none, some}
 use native.Mathlib.Omega.{arith}
 use lib.Dec.{leb, eqb}
 use borrow.Author.Tests.{leb-true, le-leb, eqb-true, eqb-false, not-true}
@@ -68,7 +68,7 @@ module _ (k n : ℕ) where
     seen : eqb n k ≡ true → only_if (between k k n) o ≡ o
     seen h = ap (λ (b : Bool). only_if b o) (alike h)
 
-    unseen : not (eqb n k) ≡ true → only_if (between k k n) o ≡ none
+    unseen : not (eqb n k) ≡ true → only_if (between k k n) o ≡ None
     unseen h = ap (λ (b : Bool). only_if b o) (apart (between k k n) refl h)
 
 neither : (a b : Bool) → not (a || b) ≡ true → (not a ≡ true) × (not b ≡ true)
@@ -205,8 +205,8 @@ narrow-false True = refl
 narrow-false Undecided = refl
 
 narrow-among : (names : Names) (o : Option Conformer) (a : Tri) → narrow a (among_residues names o Undecided) ≡ among_residues names o a
-narrow-among names none a = narrow-alone a
-narrow-among names (some c) a = go (member names.residues c.name)
+narrow-among names None a = narrow-alone a
+narrow-among names (Some c) a = go (member names.residues c.name)
   where
     go : (b : Bool) → narrow a (cond b Undecided False) ≡ cond b a False
     go true = narrow-alone a

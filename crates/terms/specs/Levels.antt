@@ -1,6 +1,5 @@
 -- Places at which one level alone is known, and the place that five records of a store make. Assumes nothing.
-use Rattle.std.specs.Prelude.{ℕ, ◌+◌, ◌*◌, ◌≤◌, Bool, List, length, leb}
-use Rattle.std.proofs.Math.Option.{Option, none, some}
+use Rattle.std.specs.Prelude.{ℕ, ◌+◌, ◌*◌, ◌≤◌, Bool, List, length, leb, None, Option, Some}
 use Rattle.machine.specs.Record.{Model, Chain, Residue, Conformer, Atom, fields_of}
 use Rattle.machine.specs.Query.{Place, window, term_value}
 use Rattle.machine.specs.declared.Tri.{Tri}
@@ -11,19 +10,19 @@ use Rattle.machine.specs.declared.RecordNumbers.{RecordNumbers}
 use Rattle.seek.specs.Seek.{record_at}
 
 abbrev pub at_model : Option Model → Place
-at_model o = record { model = o; chain = none; residue = none; conformer = none; atom = none }
+at_model o = record { model = o; chain = None; residue = None; conformer = None; atom = None }
 
 abbrev pub at_chain : Option Chain → Place
-at_chain o = record { model = none; chain = o; residue = none; conformer = none; atom = none }
+at_chain o = record { model = None; chain = o; residue = None; conformer = None; atom = None }
 
 abbrev pub at_residue : Option Residue → Place
-at_residue o = record { model = none; chain = none; residue = o; conformer = none; atom = none }
+at_residue o = record { model = None; chain = None; residue = o; conformer = None; atom = None }
 
 abbrev pub at_conformer : Option Conformer → Place
-at_conformer o = record { model = none; chain = none; residue = none; conformer = o; atom = none }
+at_conformer o = record { model = None; chain = None; residue = None; conformer = o; atom = None }
 
 abbrev pub at_atom : Option Atom → Place
-at_atom o = record { model = none; chain = none; residue = none; conformer = none; atom = o }
+at_atom o = record { model = None; chain = None; residue = None; conformer = None; atom = o }
 
 -- what of an atom a term goes by: 0 none of it, 1 one of its floats, 2 its numbers and its name, 3 first whether it is hetero
 abbrev pub part_of : Term → ℕ
@@ -61,11 +60,11 @@ by_hetero t = leb 3 (part_of t)
 unfoldable pub place_at : List ℕ → RecordNumbers → Place
 place_at w at =
     record {
-      model = some (fields_of 4 (record_at at.model w));
-      chain = some (fields_of 3 (record_at at.chain w));
-      residue = some (fields_of 2 (record_at at.residue w));
-      conformer = some (fields_of 1 (record_at at.conformer w));
-      atom = some (fields_of 0 (record_at at.atom w));
+      model = Some (fields_of 4 (record_at at.model w));
+      chain = Some (fields_of 3 (record_at at.chain w));
+      residue = Some (fields_of 2 (record_at at.residue w));
+      conformer = Some (fields_of 1 (record_at at.conformer w));
+      atom = Some (fields_of 0 (record_at at.atom w));
     }
 
 -- the terms' values there with the kinds from low to high alone known, by lists of residue names and of atom names

@@ -1,8 +1,7 @@
 // Terms, after pdbtbx's search.rs (document 01, "Trees and find"): Kleene's tables, and a term's value at its level and at a place.
 #![tactic(auto)]
 
-ghost use Rattle.std.specs.Prelude.{◌≡◌, cond, true, false, List, ℕ, ◌+◌, ◌*◌, ◌≤◌, ◌<◌, length, get_or, eqb};
-ghost use Rattle.std.proofs.Math.Option.{some};
+ghost use Rattle.std.specs.Prelude.{◌≡◌, cond, true, false, List, ℕ, ◌+◌, ◌*◌, ◌≤◌, ◌<◌, length, get_or, eqb, Some};
 ghost use Rattle.machine.specs.Kleene as Kleene;
 ghost use Rattle.machine.specs.Record.{Atom, fields_of, read_out};
 ghost use Rattle.machine.specs.Query as Query;
@@ -100,7 +99,7 @@ fn between_floats(low: f64, high: f64, n: f64) -> bool
 }
 
 pub fn optional_matches_model(t: Term, serial: u64) -> Tri
-    ensures { (names : Query.Names) → result ≡ Query.term_value names (at_model (some (record { serial = serial }))) t }
+    ensures { (names : Query.Names) → result ≡ Query.term_value names (at_model (Some (record { serial = serial }))) t }
 {
     match t {
         Term::ModelSerialNumber(n) => decided(serial == n),
@@ -110,7 +109,7 @@ pub fn optional_matches_model(t: Term, serial: u64) -> Tri
 }
 
 pub fn optional_matches_chain(t: Term, id: u64) -> Tri
-    ensures { (names : Query.Names) → result ≡ Query.term_value names (at_chain (some (record { id = id }))) t }
+    ensures { (names : Query.Names) → result ≡ Query.term_value names (at_chain (Some (record { id = id }))) t }
 {
     match t {
         Term::ChainId(n) => decided(id == n),
@@ -121,7 +120,7 @@ pub fn optional_matches_chain(t: Term, id: u64) -> Tri
 
 // The serial number is given as its bits.
 pub fn optional_matches_residue(t: Term, serial: u64, code: u64) -> Tri
-    ensures { (names : Query.Names) → result ≡ Query.term_value names (at_residue (some (record { serial = serial; code = code }))) t }
+    ensures { (names : Query.Names) → result ≡ Query.term_value names (at_residue (Some (record { serial = serial; code = code }))) t }
 {
     let number = floats::int_of(serial);
     match t {
@@ -146,7 +145,7 @@ fn outside(residues: &[u64], name: u64) -> Tri
 pub fn optional_matches_conformer(t: Term, name: u64, location: u64, residues: &[u64]) -> Tri
     ensures { (others : List ℕ)
         → result ≡ Query.term_value (record { residues = residues.entry.now; atoms = others })
-        (at_conformer (some (record { name = name; location = location }))) t }
+        (at_conformer (Some (record { name = name; location = location }))) t }
 {
     match t {
         Term::ConformerName(n) => decided(name == n),
@@ -172,7 +171,7 @@ fn element_is(element: u64, n: u64) -> Tri
 // The terms that go by one of the atom's floats.
 fn matches_float(t: Term, atom: AtomRec) -> Tri
     ensures { (a : Atom) → atom ≡ read_out a → by_words t ≡ false → (names : Query.Names)
-        → result ≡ Query.term_value names (at_atom (some a)) t }
+        → result ≡ Query.term_value names (at_atom (Some a)) t }
 {
     match t {
         Term::BFactor(x) => decided(floats::close(atom.b_factor, x)),
@@ -187,7 +186,7 @@ fn matches_float(t: Term, atom: AtomRec) -> Tri
 // tested in one place, before the term, so that no other term reads its word.
 fn matches_hetero(t: Term, atom: AtomRec, atoms: &[u64]) -> Tri
     ensures { (a : Atom) → atom ≡ read_out a → by_hetero t ≡ true → (others : List ℕ)
-        → result ≡ Query.term_value (record { residues = others; atoms = atoms.now }) (at_atom (some a)) t }
+        → result ≡ Query.term_value (record { residues = others; atoms = atoms.now }) (at_atom (Some a)) t }
 {
     if atom.hetero {
         match t {
@@ -209,7 +208,7 @@ fn matches_hetero(t: Term, atom: AtomRec, atoms: &[u64]) -> Tri
 // The atom is given as it is read out of its record.
 pub fn optional_matches_atom(t: Term, atom: AtomRec, atoms: &[u64]) -> Tri
     ensures { (a : Atom) → atom ≡ read_out a → (others : List ℕ)
-        → result ≡ Query.term_value (record { residues = others; atoms = atoms.now }) (at_atom (some a)) t }
+        → result ≡ Query.term_value (record { residues = others; atoms = atoms.now }) (at_atom (Some a)) t }
 {
     match t {
         Term::AtomSerialNumber(n) => decided(atom.serial == n),
@@ -235,7 +234,7 @@ fn word(words: &[u64], number: u64, k: usize) -> u64
 fn model_value(t: Term, words: &[u64], number: u64, known: bool) -> Tri
     requires { number * 12 + 12 ≤ length words.now }
     ensures { (names : Query.Names)
-        → result ≡ Query.term_value names (at_model (Query.only_if known (some (fields_of 4 (record_at number words.now))))) t }
+        → result ≡ Query.term_value names (at_model (Query.only_if known (Some (fields_of 4 (record_at number words.now))))) t }
 {
     if known {
         optional_matches_model(t, word(words, number, Record::SERIAL))
@@ -247,7 +246,7 @@ fn model_value(t: Term, words: &[u64], number: u64, known: bool) -> Tri
 fn chain_value(t: Term, words: &[u64], number: u64, known: bool) -> Tri
     requires { number * 12 + 12 ≤ length words.now }
     ensures { (names : Query.Names)
-        → result ≡ Query.term_value names (at_chain (Query.only_if known (some (fields_of 3 (record_at number words.now))))) t }
+        → result ≡ Query.term_value names (at_chain (Query.only_if known (Some (fields_of 3 (record_at number words.now))))) t }
 {
     if known {
         optional_matches_chain(t, word(words, number, Record::CHAIN_ID))
@@ -259,7 +258,7 @@ fn chain_value(t: Term, words: &[u64], number: u64, known: bool) -> Tri
 fn residue_value(t: Term, words: &[u64], number: u64, known: bool) -> Tri
     requires { number * 12 + 12 ≤ length words.now }
     ensures { (names : Query.Names)
-        → result ≡ Query.term_value names (at_residue (Query.only_if known (some (fields_of 2 (record_at number words.now))))) t }
+        → result ≡ Query.term_value names (at_residue (Query.only_if known (Some (fields_of 2 (record_at number words.now))))) t }
 {
     if known {
         let serial = word(words, number, Record::SERIAL);
@@ -274,7 +273,7 @@ fn conformer_value(t: Term, words: &[u64], number: u64, known: bool, residues: &
     requires { number * 12 + 12 ≤ length words.now }
     ensures { (others : List ℕ)
         → result ≡ Query.term_value (record { residues = residues.entry.now; atoms = others })
-        (at_conformer (Query.only_if known (some (fields_of 1 (record_at number words.now))))) t }
+        (at_conformer (Query.only_if known (Some (fields_of 1 (record_at number words.now))))) t }
 {
     if known {
         let name = word(words, number, Record::CONFORMER_NAME);
@@ -291,7 +290,7 @@ fn atom_value(t: Term, words: &[u64], number: u64, known: bool, atoms: &[u64]) -
     requires { number * 12 + 12 ≤ length words.now }
     ensures { (others : List ℕ)
         → result ≡ Query.term_value (record { residues = others; atoms = atoms.now })
-        (at_atom (Query.only_if known (some (fields_of 0 (record_at number words.now))))) t }
+        (at_atom (Query.only_if known (Some (fields_of 0 (record_at number words.now))))) t }
 {
     if known {
         match t {

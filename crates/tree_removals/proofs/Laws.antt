@@ -1,4 +1,5 @@
 -- What each place of the code has to show, over words and records. Assumes nothing.
+use Rattle.std.specs.Prelude.{Err, None, Ok, Option, Some}
 use Prim.Native.Nat.{ℕ, zero, ◌+◌, ◌-◌, ◌*◌, ◌≤◌, ◌<◌}
 use mathlib.Core.Path.{◌≡◌, refl, sym, ap, subst, ◌∙◌}
 use mathlib.Core.Bool.{Bool, true, false, not}
@@ -7,7 +8,7 @@ use native.Mathlib.Omega.{arith}
 use lib.ListN.{length, take, drop, get_or, length-drop}
 use lib.Seq.{length-take-le}
 use borrow.Author.Tests.{eq-eqb, ne_eqb}
-use Rattle.machine.specs.Answer.{edited_numbers}
+use Rattle.machine.specs.Answer.{Result, edited_numbers}
 use Rattle.machine.specs.Record.{Words, fields_of}
 use Rattle.machine.specs.Store.{laid, records_of}
 use Rattle.machine.specs.Kleene.{is_true}
@@ -18,18 +19,15 @@ use Rattle.machine.specs.declared.RecordNumbers.{RecordNumbers}
 use Rattle.machine.specs.declared.Tri.{Tri}
 use Rattle.machine.specs.declared.Refusal.{Refusal}
 use Rattle.machine.specs.declared.Refusal.TheVariants.{NoPosition}
-use Rattle.machine.specs.declared.Edited.TheVariants as Edited
 use Rattle.laws.specs.Grouped.{concat}
 use Rattle.moves.specs.Over.{over}
 use Rattle.moves.proofs.Laws.{over-length}
-use Rattle.seek.specs.Seek.{held, Good, Within, record_at, span, span_of}
+use Rattle.seek.specs.Seek.{held, Good, Within, record_at, span}
 use Rattle.seek.proofs.Below.{record-kind}
-use Rattle.seek.proofs.Laws.{Stands, found, missing}
-use Rattle.seek.specs.declared.Span as Span
+use Rattle.seek.proofs.Laws.{Stands, stands, missing}
 use Rattle.terms.specs.Levels as Levels
 use Rattle.search.specs.Nodes.{checked}
 use Rattle.search.proofs.Laws.{tree-then, tree-refused}
-use Rattle.search.specs.declared.CheckedTree as CheckedTree
 use Rattle.empty_removals.specs.Prune.{Laid, Compacted, kept}
 use Rattle.empty_removals.proofs.Words.{compact-start, compact-skip, compact-keep, below-within, atoms-gap, atoms-laid, atoms-removed}
 use Rattle.tree_removals.specs.Keep.{keeps_atom, staying}
@@ -105,21 +103,21 @@ module _ (p : Words → Bool) (from end : ℕ) (w : List ℕ) (h : Within from e
 -- ---- `remove_atoms_by`
 
 -- what follows the tree's check
-module _ (w : List ℕ) (i : ℕ) (g : Good w) (r : Span.Span) (e : r ≡ span_of (span (i ∷ []) (held w))) where
-  pub by-missing : (tree : List ℕ) → r ≡ Span.TheVariants.Missing → (edited_numbers (Edited.Refused NoPosition), w) ≡ step_by w (remove_atoms_by i tree)
+module _ (w : List ℕ) (i : ℕ) (g : Good w) (r : Option (ℕ × ℕ)) (e : r ≡ span (i ∷ []) (held w)) where
+  pub by-missing : (tree : List ℕ) → r ≡ None → (edited_numbers (Err NoPosition), w) ≡ step_by w (remove_atoms_by i tree)
   unfolding step_by remove_atoms_by
   by-missing tree f = let b = missing 0 4 (i ∷ []) 0 (held w) (sym e ∙ f) in rw (g, b)
 
-  module _ (start stop : ℕ) (f : r ≡ Span.TheVariants.At start stop) where
+  module _ (start stop : ℕ) (f : r ≡ Some (start, stop)) where
     there : Stands 0 4 (i ∷ []) 0 (held w) start stop
-    there = found 0 4 (i ∷ []) 0 (held w) start stop (sym e ∙ f)
+    there = stands 0 4 (i ∷ []) 0 (held w) start stop (sym e ∙ f)
 
     -- the records below the model's own
     pub model-within : Within (start + 1) stop w
     model-within = below-within w g 0 3 (i ∷ []) (held w) start stop refl there
 
-    pub by-refused : (tree : List ℕ) (t : CheckedTree.CheckedTree) → t ≡ checked (read_tree tree) → (c : Refusal) → t ≡ CheckedTree.TheVariants.Refused c
-        → (edited_numbers (Edited.Refused c), w) ≡ step_by w (remove_atoms_by i tree)
+    pub by-refused : (tree : List ℕ) (t : Result (Unit {0})) → t ≡ checked (read_tree tree) → (c : Refusal) → t ≡ Err c
+        → (edited_numbers (Err c), w) ≡ step_by w (remove_atoms_by i tree)
     unfolding step_by remove_atoms_by
     by-refused tree t h c q = rw (g, there.there, tree-refused (read_tree tree) c (sym h ∙ q))
 
@@ -131,9 +129,9 @@ module _ (w : List ℕ) (i : ℕ) (g : Good w) (r : Span.Span) (e : r ≡ span_o
       pub by-gap : Laid s × (to ≤ stop) × (stop ≤ length (records_of s))
       by-gap = atoms-gap w g i start stop there (keeps_atom tables tree) to s among
 
-      pub by-done : (t : CheckedTree.CheckedTree) → t ≡ checked (read_tree tree) → t ≡ CheckedTree.TheVariants.Good
+      pub by-done : (t : Result (Unit {0})) → t ≡ checked (read_tree tree) → t ≡ Ok tt
           → (v : List ℕ) → v ≡ laid (length s) (concat (take to (records_of s) ++ drop stop (records_of s)))
-          → (edited_numbers (Edited.Done 1 (stop - to)), v) ≡ step_by w (remove_atoms_by i tree)
+          → (edited_numbers (Ok (record { found = 1; removed = (stop - to) })), v) ≡ step_by w (remove_atoms_by i tree)
       unfolding step_by remove_atoms_by keeps_atom
       by-done t h q v u =
           let l = atoms-laid w g i start stop there (keeps_atom tables tree) to s among v u in

@@ -1,21 +1,17 @@
 // Atoms that a tree picks out of a model, to be removed (document 01, "Edits").
 #![tactic(auto)]
 
-ghost use Rattle.std.specs.Prelude.{◌≡◌, not, ◌+◌, ◌*◌, ◌≤◌, length, take, drop};
+ghost use Rattle.std.specs.Prelude.{◌≡◌, Ok, not, ◌+◌, ◌*◌, ◌≤◌, length};
 ghost use Rattle.machine.specs.Answer.{edited_numbers};
 ghost use Rattle.machine.specs.Kleene.{is_true};
 ghost use Rattle.machine.specs.Query.{read_tree};
 ghost use Rattle.machine.specs.Edit.{remove_atoms_by, step_by};
-ghost use Rattle.moves.specs.Over.{over};
 ghost use Rattle.seek.specs.Seek.{Good, Within, record_at};
 ghost use Rattle.search.specs.Nodes.{checked};
-ghost use Rattle.search.specs.declared.CheckedTree.TheVariants as Tree;
 ghost use Rattle.empty_removals.specs.Prune.{Compacted};
 ghost use Rattle.tree_removals.specs.Keep.{staying};
 
 use machine::{Edited, Record, Refusal, Tri};
-use search::CheckedTree;
-use seek::Span;
 
 // "Undecided atoms stay."
 fn spares(v: Tri) -> bool
@@ -31,7 +27,7 @@ fn spares(v: Tri) -> bool
 // Whether a record stays: an atom does unless the tree is true there, with the atom's kind alone known. So no number but
 // the atom's is read.
 fn stays(store: &[u64], number: usize, tree: &[u64], residues: &[u64], atoms: &[u64]) -> bool
-    requires { (checked (read_tree tree.now) ≡ Tree.Good) × (number * 12 + 12 ≤ length store.now) }
+    requires { (checked (read_tree tree.now) ≡ Ok tt) × (number * 12 + 12 ≤ length store.now) }
     ensures { result ≡ staying residues.now atoms.now tree.now (record_at number store.now) }
 {
     let kind = store[number * Record::WIDTH];
@@ -45,16 +41,6 @@ fn stays(store: &[u64], number: usize, tree: &[u64], residues: &[u64], atoms: &[
     spares(v)
 }
 
-// One record goes down, unless it stands there already.
-fn lower(store: &mut [u64], from: usize, to: usize)
-    requires { (to ≤ from) × (from + 12 ≤ length store.old) }
-    ensures { store.new ≡ over to (take 12 (drop from store.old)) store.old }
-{
-    if to < from {
-        moves::keep_record(store, from, to);
-    }
-}
-
 // Of the records from `from` up to `end` those that stay move down, so that they start at `from`. The answer is where they end.
 fn compact(
     store: &mut [u64],
@@ -64,43 +50,35 @@ fn compact(
     residues: &[u64],
     atoms: &[u64],
 ) -> usize
-    requires { Within from end store.old × (checked (read_tree tree.now) ≡ Tree.Good) }
+    requires { Within from end store.old × (checked (read_tree tree.now) ≡ Ok tt) }
     ensures { Compacted (staying residues.now atoms.now tree.now)
         from end store.old result store.new }
 {
-    let mut at: usize = from;
-    let mut to: usize = from;
-    while at < end {
+    let mut to = from;
+    for at in from..end {
         if stays(store, at, tree, residues, atoms) {
-            lower(store, at * Record::WIDTH, to * Record::WIDTH);
+            moves::move_record(store, at * Record::WIDTH, to * Record::WIDTH);
             to += 1;
-            at += 1;
-        } else {
-            at += 1;
         }
     }
     to
 }
 
 // The atoms of a model at which a tree is true go. Refused in order: 5 by the position, 3 and 4 by the tree.
-pub fn remove_atoms_by(store: &mut [u64], model: u64, tree: &[u64]) -> Edited
+pub fn remove_atoms_by(store: &mut [u64], model: u64, tree: &[u64]) -> Result<Edited, Refusal>
     requires { Good store.old }
     ensures { (edited_numbers result, store.new) ≡ step_by store.old (remove_atoms_by model tree.now) }
 {
     let position = [model];
-    let Span::At(start, end) = seek::locate(store, &position) else {
-        return Edited::Refused(Refusal::NoPosition);
-    };
-    let read = search::check_tree(tree);
-    match read {
-        CheckedTree::Refused(c) => Edited::Refused(c),
-        CheckedTree::Good => {
-            let residues = reference_tables::amino_acids();
-            let atoms = reference_tables::backbone_names();
-            let to = compact(store, start + 1, end, tree, &residues, &atoms);
-            let removed = end - to;
-            empty_removals::close_gap(store, to, end);
-            Edited::Done(1, removed as u64)
-        }
-    }
+    let (start, end) = seek::locate(store, &position)?;
+    search::check_tree(tree)?;
+    let residues = reference_tables::amino_acids();
+    let atoms = reference_tables::backbone_names();
+    let to = compact(store, start + 1, end, tree, &residues, &atoms);
+    let removed = end - to;
+    empty_removals::close_gap(store, to, end);
+    Ok(Edited {
+        found: 1,
+        removed: removed as u64,
+    })
 }

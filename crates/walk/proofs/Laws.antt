@@ -1,4 +1,5 @@
 -- The laws that the proofs of the functions apply. Assumes nothing.
+use Rattle.std.specs.Prelude.{Ok, Err, None, Some, IsErrAnd}
 use Prim.Native.Nat.{ℕ, suc, ◌+◌, ◌-◌, ◌*◌, ◌/◌, ◌≤◌, ◌<◌}
 use mathlib.Core.Path.{◌≡◌, refl, sym, ap, ◌∙◌}
 use mathlib.Core.Bool.{Bool, true, false, cond}
@@ -7,32 +8,26 @@ use native.Mathlib.Omega.{arith}
 use lib.ListN.{length, take, drop, get_or, set, length-set}
 use lib.Seq.{sets-eq, take_all, take-nil}
 use lib.Dec.{eqb, leb, ltb}
-use borrow.Author.Tests.{eq-eqb, ne_eqb, le-leb, leb-true, lt-leb, le-ltb, lt-ltb, ltb-true, ltb-false}
+use borrow.Author.Tests.{eq-eqb, ne_eqb, le-leb, leb-true, lt-ltb, ltb-true, ltb-false}
 use Rattle.machine.specs.Lists.{keep}
-use Rattle.machine.specs.Answer.{ok, found_numbers}
-use Rattle.machine.specs.Store.{Machine, read_store}
+use Rattle.machine.specs.Answer.{Result, counted_numbers}
+use Rattle.machine.specs.Store.{read_store}
 use Rattle.machine.specs.Kleene.{is_hit}
-use Rattle.machine.specs.Query.{Names, read_tree, tables}
+use Rattle.machine.specs.Query.{Names, tables}
 use Rattle.machine.specs.Find.{lowest, hits_among, hits_from, hit_words, written, find_from}
 use Rattle.machine.specs.declared.RecordNumbers.{RecordNumbers}
 use Rattle.machine.specs.declared.Refusal.{Refusal}
-use Rattle.machine.specs.declared.Refusal.TheVariants.{NoPosition, ShortOutput}
-use Rattle.machine.specs.declared.Found as Found
+use Rattle.machine.specs.declared.Refusal.TheVariants.{NoPosition}
 use Rattle.laws.specs.Lists.{All}
+use Rattle.laws.specs.Exits.{exit-err}
 use Rattle.laws.specs.Numbers.{hits_few, hits-five, five-words}
 use Rattle.moves.specs.Over.{over}
 use Rattle.moves.proofs.Laws.{over-length, over_none, over-over}
-use Rattle.seek.specs.Seek.{Good, Within, held, records_in, atom_records, five_numbers, part_of, followed_of}
+use Rattle.seek.specs.Seek.{Good, held, records_in, atom_records, five_numbers}
 use Rattle.seek.specs.declared.Part.{Part}
-use Rattle.seek.specs.declared.Followed as Followed
 use Rattle.seek.proofs.Below.{record-kind, records_in-cons}
-use Rattle.seek.proofs.Turns.{at_part, no_part}
 use Rattle.store.specs.Store.{checked_by}
 use Rattle.store.proofs.Laws.{Held, good-store, refused-find}
-use Rattle.store.specs.declared.Checked as Checked
-use Rattle.search.specs.Nodes.{checked}
-use Rattle.search.proofs.Laws.{tree-then, tree-refused}
-use Rattle.search.specs.declared.CheckedTree as CheckedTree
 use Rattle.terms.specs.Levels.{Inside}
 use Rattle.descent.specs.Descent.{five, UpTo, value_by, Settled, Turned}
 use Rattle.descent.specs.declared.State.{State}
@@ -162,9 +157,6 @@ pub put-law : (out : List ℕ) (hit : ℕ) (at : RecordNumbers) → hit < length
     → set (set (set (set (set out (hit * 5) at.model) (hit * 5 + 1) at.chain) (hit * 5 + 2) at.residue) (hit * 5 + 3) at.conformer) (hit * 5 + 4) at.atom ≡ put_hit hit (five at) out
 put-law out hit at h = put_five out (hit * 5) at (omega arith) ∙ sym (rw (lt-ltb hit (length out / 5) h))
 
-pub put-none : (out : List ℕ) (hit : ℕ) (at : RecordNumbers) → length out / 5 ≤ hit → out ≡ put_hit hit (five at) out
-put-none out hit at h = sym (rw (le-ltb hit (length out / 5) h))
-
 -- the hits still to come that there is room for, written where they go, make the output whole
 pub record Writing (w t residues atoms : List ℕ) (low end : ℕ) (hits : List (List ℕ)) (out₀ : List ℕ) (n d s : ℕ) (at : RecordNumbers) (found : ℕ) (out : List ℕ) : Type 0 where
   pub walking : Walking w t residues atoms low end hits n d s at found
@@ -253,22 +245,6 @@ module _ (w t residues atoms : List ℕ) (low end : ℕ) (hits : List (List ℕ)
 
 -- ---- the room
 
-module _ (w : List ℕ) (p : Part) (total : ℕ) (asked : Asked w p total) (room : ℕ) where
-  abbrev there : ℕ
-  there = atom_records (records_in p.from p.end w)
-
-  pub all-taken : total ≤ room → true ≡ leb there room
-  all-taken h = sym (le-leb there room (omega (arith, asked.holds.counted, asked.few)))
-
-  pub whole-left : room < total → p.depth ≡ 0 → false ≡ leb there room
-  whole-left h d = sym (lt-leb there room (omega (arith, asked.holds.counted, asked.whole d)))
-
-pub part-within : (w : List ℕ) (p : Part) (total : ℕ) → Asked w p total → Within p.from p.end w
-part-within w p total asked = asked.holds.part.within
-
-pub as-counted : (room n c : ℕ) → c ≡ n → leb c room ≡ leb n room
-as-counted room n c e = ap (λ (x : ℕ). leb x room) e
-
 module _ (w t residues atoms : List ℕ) (p : Part) (total : ℕ) (asked : Asked w p total) where
   abbrev names : Names
   names = record { residues = residues; atoms = atoms }
@@ -278,9 +254,6 @@ module _ (w t residues atoms : List ℕ) (p : Part) (total : ℕ) (asked : Asked
 
   five-each : length (hit_words hits) ≡ 5 * length hits
   five-each = rw (asked.holds.found t names) (five-words (hits_among names (p.depth + 1) t asked.atoms) (hits-five names (p.depth + 1) t asked.atoms asked.holds.five))
-
-  pub ready-law : checked (read_tree t) ≡ CheckedTree.TheVariants.Good → Ready w p t
-  ready-law e = record { part = asked.holds.part; tree = e }
 
   module _ (out : List ℕ) (room : ℕ) (is : room ≡ length out / 5) where
     -- no more hits than atoms
@@ -298,70 +271,46 @@ module _ (w t residues atoms : List ℕ) (p : Part) (total : ℕ) (asked : Asked
       pub counted-fit : c ≤ room → 5 * length hits ≤ length out
       counted-fit l = omega (arith, counts)
 
-      pub no_room : room < c → (found_numbers (Found.TheVariants.Refused ShortOutput), out) ≡ written out (ok hits)
-      no_room l = sym (rw (lt-leb (5 * length hits) (length out) (omega (arith, counts))))
-
   pub found-law : (out : List ℕ) → 5 * length hits ≤ length out → (r : ℕ) (out' : List ℕ) → (r, out') ≡ wrote hits out
-      → (found_numbers (Found.TheVariants.Hits r), out') ≡ written out (ok hits)
+      → (counted_numbers (Ok r), out') ≡ written out (Ok hits)
   unfolding over
   found-law out fits r out' q =
       let z : 0 + length (hit_words hits) ≡ 5 * length hits = omega (arith, five-each) in
       let all : take (length out / 5) hits ≡ hits = take_all (length out / 5) hits (omega arith) in
-      ap (λ (x : ℕ × List ℕ). (found_numbers (Found.TheVariants.Hits x.0), x.1)) q
+      ap (λ (x : ℕ × List ℕ). (counted_numbers (Ok x.0), x.1)) q
       ∙ rw (all, z) (sym (rw (le-leb (5 * length hits) (length out) fits)))
-
--- ---- the tree
-
-pub good-tree : (t : List ℕ) (x : CheckedTree.CheckedTree) → x ≡ checked (read_tree t) → x ≡ CheckedTree.TheVariants.Good → checked (read_tree t) ≡ CheckedTree.TheVariants.Good
-good-tree t x g h = sym g ∙ h
-
-module _ (w t : List ℕ) (p : Part) (x : CheckedTree.CheckedTree) (g : x ≡ checked (read_tree t)) (out : List ℕ) where
-  pub no-tree : {c : Refusal} → x ≡ CheckedTree.TheVariants.Refused c → (found_numbers (Found.TheVariants.Refused c), out) ≡ written out (asked_below w p t)
-  no-tree h = rw (tree-refused (read_tree t) _ (sym g ∙ h))
-
-  module _ (h : x ≡ CheckedTree.TheVariants.Good) (residues atoms : List ℕ) (one : residues ≡ tables.residues) (two : atoms ≡ tables.atoms) where
-    pub by-tables : {y : List ℕ × List ℕ} → y ≡ written out (ok (found_below w p t residues atoms)) → y ≡ written out (asked_below w p t)
-    by-tables k = k ∙ rw (one, two, tree-then (read_tree t) (ok (found_below w p t tables.residues tables.atoms)) (sym g ∙ h))
 
 -- ---- the start
 
-pub short-start : (start : List ℕ) (m : Machine) (r : Followed.Followed) → length start ≤ 4 → r ≡ followed_of (part_of start m) → r ≡ followed_of (part_under start m)
-short-start start m r l e = e ∙ rw (le-leb (length start) 4 l)
-
-pub long-start : (start : List ℕ) (m : Machine) → 4 < length start → Followed.TheVariants.Missing ≡ followed_of (part_under start m)
-long-start start m l = rw (lt-leb (length start) 4 l)
-
-pub held-good : {total : ℕ} (w : List ℕ) (r : Checked.Checked) → r ≡ checked_by (read_store w) → r ≡ Checked.TheVariants.Good total → Good w
-held-good w r e f = (good-store w (sym f ∙ e)).read
+pub held-good : {total : ℕ} (w : List ℕ) → Ok total ≡ checked_by (read_store w) → Good w
+held-good w e = (good-store w e).read
 
 -- find, by the answers of its parts
-module _ (w start t out : List ℕ) where
-  pub no_store : {c : Refusal} (r : Checked.Checked) → r ≡ checked_by (read_store w) → r ≡ Checked.TheVariants.Refused c
-      → (found_numbers (Found.TheVariants.Refused c), out) ≡ find_from w start t out
-  no_store r e f = sym (refused-find w (sym f ∙ e) start t out)
+pub no_store : (w start t out : List ℕ) {c : Refusal} (r : Result ℕ) → Err c ≡ checked_by (read_store w) → IsErrAnd r (λ y. y ≡ c) → (counted_numbers r, out) ≡ find_from w start t out
+no_store w start t out r e q = rw (exit-err _ _ q) (sym (refused-find w e start t out))
 
-  module _ {total : ℕ} (r : Checked.Checked) (e : r ≡ checked_by (read_store w)) (f : r ≡ Checked.TheVariants.Good total) (x : Followed.Followed) (g : x ≡ followed_of (part_under start (held w))) where
-    is_held : Held w total
-    is_held = good-store w (sym f ∙ e)
+module _ (w start : List ℕ) {total : ℕ} (e : Ok total ≡ checked_by (read_store w)) where
+  is_held : Held w total
+  is_held = good-store w e
 
-    pub no-position : x ≡ Followed.TheVariants.Missing → (found_numbers (Found.TheVariants.Refused NoPosition), out) ≡ find_from w start t out
+  pub no-position : (t out : List ℕ) → part_under start (held w) ≡ None → (counted_numbers (Err NoPosition), out) ≡ find_from w start t out
+  unfolding find_from hits_from
+  no-position t out h = rw (is_held.read, no_start w is_held.read start h)
+
+  module _ (p : Part) (h : part_under start (held w) ≡ Some p) where
+    is-started : Started w is_held.read start p
+    is-started = started w is_held.read start p h
+
+    pub asked-law : Asked w p total
+    asked-law =
+        let s = is-started in
+        let n = is_held.atoms in
+        record { atoms = s.atoms; holds = s.holds; few = omega (arith, s.few); whole = λ d. omega (arith, s.whole (omega (arith, s.depth))) }
+
+    pub found-run : (t out : List ℕ) {y : List ℕ × List ℕ} → y ≡ written out (asked_below w p t) → y ≡ find_from w start t out
     unfolding find_from hits_from
-    no-position h = rw (is_held.read, no_start w is_held.read start (no_part (part_under start (held w)) (sym g ∙ h)))
-
-    module _ (p : Part) (h : x ≡ Followed.TheVariants.To p) where
-      is-started : Started w is_held.read start p
-      is-started = started w is_held.read start p (at_part (part_under start (held w)) p (sym g ∙ h))
-
-      pub asked-law : Asked w p total
-      asked-law =
-          let s = is-started in
-          let n = is_held.atoms in
-          record { atoms = s.atoms; holds = s.holds; few = omega (arith, s.few); whole = λ d. omega (arith, s.whole (omega (arith, s.depth))) }
-
-      pub found-run : {y : List ℕ × List ℕ} → y ≡ written out (asked_below w p t) → y ≡ find_from w start t out
-      unfolding find_from hits_from
-      found-run k =
-          let s = is-started in
-          let low : p.depth + 1 ≡ lowest start = omega (arith, s.depth) in
-          let hits : found_below w p t tables.residues tables.atoms ≡ hits_among tables (lowest start) t s.atoms = s.holds.found t tables ∙ ap (λ (l : ℕ). hits_among tables l t s.atoms) low in
-          k ∙ rw (is_held.read, s.there, hits)
+    found-run t out k =
+        let s = is-started in
+        let low : p.depth + 1 ≡ lowest start = omega (arith, s.depth) in
+        let hits : found_below w p t tables.residues tables.atoms ≡ hits_among tables (lowest start) t s.atoms = s.holds.found t tables ∙ ap (λ (l : ℕ). hits_among tables l t s.atoms) low in
+        k ∙ rw (is_held.read, s.there, hits)

@@ -1,10 +1,10 @@
 -- What stands under a start: the part of a store that `follow` answers has the start's atoms, and the pruned pass over it finds the hits among them.
 -- Assumes nothing.
+use Rattle.std.specs.Prelude.{None, Option, Some}
 use Prim.Native.Nat.{ℕ, zero, suc, ◌+◌, ◌-◌, ◌≤◌, ◌<◌}
 use mathlib.Core.Path.{◌≡◌, refl, sym, ap, ◌∙◌}
 use mathlib.Core.Bool.{Bool, true, false, cond}
 use mathlib.Core.List.{List, [], ◌∷◌, ◌++◌, map, append_assoc, append-nil}
-use mathlib.Core.Option.{Option, none, some}
 use native.Mathlib.Omega.{arith}
 use lib.ListN.{length, drop, set, replicate, drop_of_length-le, length-append, length-set}
 use lib.Seq.{take_at, drop_at}
@@ -117,7 +117,7 @@ module _ (w : List ℕ) (good : Good w) where
       }
 
   -- one index down
-  module _ (k g : ℕ) (path : List ℕ) (s : Site) (n : ℕ) (ts : List (Branch (suc k))) (a : Placed (suc k) g path s n ts) (i : ℕ) (u : ℕ × Branch (suc k)) (e : nth i (numbered (suc k) n ts) ≡ some u) where
+  module _ (k g : ℕ) (path : List ℕ) (s : Site) (n : ℕ) (ts : List (Branch (suc k))) (a : Placed (suc k) g path s n ts) (i : ℕ) (u : ℕ × Branch (suc k)) (e : nth i (numbered (suc k) n ts) ≡ Some u) where
     abbrev own : Words
     own = words (suc k) u.1.0
 
@@ -242,14 +242,14 @@ module _ (w : List ℕ) (good : Good w) where
 
   -- there is a part exactly where there is a start, and it holds the start's atoms
   abbrev Agree : Option Part → Option (List Site) → Type 0
-  Agree none none = Unit {0}
-  Agree none (some atoms) = ⊥
-  Agree (some p) none = ⊥
-  Agree (some p) (some atoms) = Holds w p atoms
+  Agree None None = Unit {0}
+  Agree None (Some atoms) = ⊥
+  Agree (Some p) None = ⊥
+  Agree (Some p) (Some atoms) = Holds w p atoms
 
-  then-agree : {A : Type 0} (f : A → Option Part) (g : A → Option (List Site)) (o : Option A) → ((x : A) → o ≡ some x → Agree (f x) (g x)) → Agree (and_then o f) (and_then o g)
-  then-agree f g none h = tt
-  then-agree f g (some x) h = h x refl
+  then-agree : {A : Type 0} (f : A → Option Part) (g : A → Option (List Site)) (o : Option A) → ((x : A) → o ≡ Some x → Agree (f x) (g x)) → Agree (and_then o f) (and_then o g)
+  then-agree f g None h = tt
+  then-agree f g (Some x) h = h x refl
 
   agree : (k g : ℕ) (path : List ℕ) (s : Site) (n : ℕ) (is : List ℕ) (ts : List (Branch k)) → Placed k g path s n ts → Agree (part_at k g path n is ts) (atoms_under k s n is ts)
   unfolding part_at atoms_under
@@ -258,7 +258,7 @@ module _ (w : List ℕ) (good : Good w) where
   agree (suc k) g path s n (i ∷ is) ts a =
       then-agree _ _ (nth i (numbered (suc k) n ts)) (λ u e. agree k (suc g) (set path g u.0) (below (suc k) u.0 u.1.0 s) (suc u.0) is u.1.1 (down k g path s n ts a i u e))
 
-  agree-start : (start : List ℕ) (b : Bool) → leb (length start) 4 ≡ b → Agree (cond b (part_of start (held w)) none) (atoms_from start (held w))
+  agree-start : (start : List ℕ) (b : Bool) → leb (length start) 4 ≡ b → Agree (cond b (part_of start (held w)) None) (atoms_from start (held w))
   agree-start start true e =
       let l = leb-true (length start) 4 e in
       rw (rw append-nil at (part-among 4 0 refl (replicate {A = ℕ} 5 0) 0 start l (held w) [] tt)) (agree 4 0 (replicate {A = ℕ} 5 0) top 0 start (held w) top_placed)
@@ -266,45 +266,45 @@ module _ (w : List ℕ) (good : Good w) where
 
   -- ---- what a start's part tells
 
-  agree-none : (o : Option (List Site)) → Agree none o → o ≡ none
-  agree-none none a = refl
-  agree-none (some atoms) a = absurd a
+  agree-none : (o : Option (List Site)) → Agree None o → o ≡ None
+  agree-none None a = refl
+  agree-none (Some atoms) a = absurd a
 
-  agree-some : (p : Part) (o : Option (List Site)) → Agree (some p) o → (atoms : List Site) × (o ≡ some atoms) × Holds w p atoms
-  agree-some p none a = absurd a
-  agree-some p (some atoms) a = (atoms, refl, a)
+  agree-some : (p : Part) (o : Option (List Site)) → Agree (Some p) o → (atoms : List Site) × (o ≡ Some atoms) × Holds w p atoms
+  agree-some p None a = absurd a
+  agree-some p (Some atoms) a = (atoms, refl, a)
 
   module _ (start : List ℕ) where
     agrees : (o : Option Part) → part_under start (held w) ≡ o → Agree o (atoms_from start (held w))
     agrees o e = rw e at (agree-start start (leb (length start) 4) refl)
 
-    pub no_start : part_under start (held w) ≡ none → atoms_from start (held w) ≡ none
-    no_start e = agree-none (atoms_from start (held w)) (agrees none e)
+    pub no_start : part_under start (held w) ≡ None → atoms_from start (held w) ≡ None
+    no_start e = agree-none (atoms_from start (held w)) (agrees None e)
 
     -- the start's atoms, no more than the store has, and with no index all of them
     pub record Started (p : Part) : Type 0 where
       pub atoms : List Site
-      pub there : atoms_from start (held w) ≡ some atoms
+      pub there : atoms_from start (held w) ≡ Some atoms
       pub holds : Holds w p atoms
       pub depth : p.depth ≡ length start
       pub few : length atoms ≤ stored (held w)
       pub whole : length start ≡ 0 → length atoms ≡ stored (held w)
 
-    all-atoms : (atoms : List Site) → atoms_from start (held w) ≡ some atoms → length start ≡ 0 → length atoms ≡ stored (held w)
+    all-atoms : (atoms : List Site) → atoms_from start (held w) ≡ Some atoms → length start ≡ 0 → length atoms ≡ stored (held w)
     all-atoms atoms e l =
         let z : length start ≤ 0 = omega arith in
         let n : start ≡ [] = drop_of_length-le start z in
-        let f : some (atoms_of (held w)) ≡ some atoms = sym (whole-start (held w)) ∙ ap (λ (i : List ℕ). atoms_from i (held w)) (sym n) ∙ e in
+        let f : Some (atoms_of (held w)) ≡ Some atoms = sym (whole-start (held w)) ∙ ap (λ (i : List ℕ). atoms_from i (held w)) (sym n) ∙ e in
         let q : atoms_of (held w) ≡ atoms = cc in
         ap length (sym q) ∙ atoms-stored (held w)
 
-    part-start : (p : Part) (b : Bool) → cond b (part_of start (held w)) none ≡ some p → part_of start (held w) ≡ some p
+    part-start : (p : Part) (b : Bool) → cond b (part_of start (held w)) None ≡ Some p → part_of start (held w) ≡ Some p
     part-start p true e = e
     part-start p false e = let z : ◌≡◌ {A = ℕ} 0 1 = cc in absurd (omega arith)
 
-    pub started : (p : Part) → part_under start (held w) ≡ some p → Started p
+    pub started : (p : Part) → part_under start (held w) ≡ Some p → Started p
     started p e =
-        let a = agree-some p (atoms_from start (held w)) (agrees (some p) e) in
+        let a = agree-some p (atoms_from start (held w)) (agrees (Some p) e) in
         record {
           atoms = a.0;
           there = a.1;

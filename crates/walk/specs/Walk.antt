@@ -1,7 +1,6 @@
 -- What the contracts of `src/` cite: what is found from where a pass stands on, and what it may start from. Assumes nothing.
-use Rattle.std.specs.Prelude.{ℕ, ◌+◌, ◌*◌, ◌/◌, ◌≤◌, ◌≡◌, Bool, cond, List, map, length, take, leb, ltb}
-use Rattle.std.proofs.Math.Option.{Option, none}
-use Rattle.machine.specs.Answer.{Result, ok, ◌>>◌}
+use Rattle.std.specs.Prelude.{ℕ, ◌+◌, ◌*◌, ◌/◌, ◌≤◌, ◌≡◌, Bool, cond, List, map, length, take, leb, ltb, None, Ok, Option}
+use Rattle.machine.specs.Answer.{Result, ◌>>◌}
 use Rattle.machine.specs.Record.{Words, kind}
 use Rattle.machine.specs.Store.{Machine}
 use Rattle.machine.specs.Kleene.{is_hit}
@@ -13,7 +12,6 @@ use Rattle.moves.specs.Over.{over}
 use Rattle.seek.specs.Seek.{Within, records_in, atom_records, part_of}
 use Rattle.seek.specs.declared.Part.{Part}
 use Rattle.search.specs.Nodes.{checked}
-use Rattle.search.specs.declared.CheckedTree as CheckedTree
 use Rattle.descent.specs.Descent.{site_at, UpTo}
 use Rattle.walk.specs.PrunedPass.{pruned_pass}
 
@@ -34,7 +32,7 @@ found_below w p t residues atoms = found_in w p.from p.end t (p.depth + 1) p.dep
 
 -- by the crate's tables, where the tree is accepted
 abbrev pub asked_below : List ℕ → Part → List ℕ → Result (List (List ℕ))
-asked_below w p t = read_tree t >> ok (found_below w p t tables.residues tables.atoms)
+asked_below w p t = read_tree t >> Ok (found_below w p t tables.residues tables.atoms)
 
 -- the output's words with the hit of a number written, where they have room for it
 abbrev pub put_hit : ℕ → List ℕ → List ℕ → List ℕ
@@ -48,7 +46,7 @@ wrote hits out = (length hits, over 0 (hit_words (take (length out / 5) hits)) o
 
 -- what stands under a start of at most four indexes
 abbrev pub part_under : List ℕ → Machine → Option Part
-part_under start m = cond (leb (length start) 4) (part_of start m) none
+part_under start m = cond (leb (length start) 4) (part_of start m) None
 
 pub record Levelled (r : Words) : Type 0 where
   pub low : 1 ≤ kind r
@@ -64,7 +62,7 @@ pub record Walkable (w : List ℕ) (p : Part) : Type 0 where
 -- with a tree that was accepted
 pub record Ready (w : List ℕ) (p : Part) (t : List ℕ) : Type 0 where
   pub part : Walkable w p
-  pub tree : checked (read_tree t) ≡ CheckedTree.TheVariants.Good
+  pub tree : checked (read_tree t) ≡ Ok tt
 
 -- a part has these atoms, and what is found there are the hits among them
 pub record Holds (w : List ℕ) (p : Part) (atoms : List Site) : Type 0 where

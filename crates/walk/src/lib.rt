@@ -2,20 +2,17 @@
 // and evaluates it below none where it is true.
 #![tactic(auto)]
 
-ghost use Rattle.std.specs.Prelude.{◌≡◌, length, leb};
-ghost use Rattle.machine.specs.Answer.{ok, found_numbers};
+ghost use Rattle.std.specs.Prelude.{◌≡◌, leb, Ok};
+ghost use Rattle.machine.specs.Answer.{counted_numbers};
 ghost use Rattle.machine.specs.Query.{read_tree};
 ghost use Rattle.machine.specs.Find.{written, find_from};
-ghost use Rattle.seek.specs.Seek.{Good, held, records_in, atom_records, followed_of, five_numbers};
+ghost use Rattle.seek.specs.Seek.{Good, held, records_in, atom_records, five_numbers};
 ghost use Rattle.search.specs.Nodes.{checked};
-ghost use Rattle.search.specs.declared.CheckedTree.TheVariants as CheckedTrees;
 ghost use Rattle.descent.specs.Descent.{five};
 ghost use Rattle.walk.specs.Walk.{found_below, asked_below, put_hit, wrote, Ready, Asked, part_under};
 
-use machine::{Found, Record, Refusal};
-use search::CheckedTree;
-use seek::{Followed, Part};
-use store::Checked;
+use machine::{Record, Refusal};
+use seek::Part;
 
 // ---- a pass
 
@@ -50,18 +47,13 @@ fn find_in(
 {
     let topmost = search::topmost_kind(tree);
     let low = part.depth + 1;
-    let end = part.end;
-    let path = part.path;
-    let mut at = descent::numbers_of(path);
+    let mut at = descent::numbers_of(part.path);
     let mut live = part.depth;
     let mut settled: u64 = Record::ATOM;
     let mut found: u64 = 0;
-    let mut n = part.from;
-    while n < end {
+    for n in part.from..part.end {
         let kind = store[n * Record::WIDTH];
-        if live + 1 < kind {
-            n += 1;
-        } else {
+        if kind <= live + 1 {
             descent::enter(&mut at, kind, n as u64);
             let next = descent::turn(
                 store, tree, &at, low, kind, topmost, settled, residues, atoms,
@@ -71,9 +63,6 @@ fn find_in(
             if live == Record::ATOM {
                 put(out, found, &at);
                 found += 1;
-                n += 1;
-            } else {
-                n += 1;
             }
         }
     }
@@ -108,64 +97,58 @@ fn find_below(
     residues: &[u64],
     atoms: &[u64],
     out: &mut [u64],
-) -> Found
-    requires { Asked store.now part total × (checked (read_tree tree.now) ≡ CheckedTrees.Good) }
-    ensures { (found_numbers result, out.new)
-        ≡ written out.old (ok (found_below store.now part tree.now residues.now atoms.now)) }
+) -> Result<u64, Refusal>
+    requires { Asked store.now part total × (checked (read_tree tree.now) ≡ Ok tt) }
+    ensures { (counted_numbers result, out.new)
+        ≡ written out.old (Ok (found_below store.now part tree.now residues.now atoms.now)) }
 {
     let room = out.len() as u64 / 5;
     if takes_all(store, part, total, room) {
-        return Found::Hits(find_in(store, part, tree, residues, atoms, out));
+        return Ok(find_in(store, part, tree, residues, atoms, out));
     }
     let mut nothing = [0u64; 1];
     if find_in(store, part, tree, residues, atoms, &mut nothing) <= room {
-        return Found::Hits(find_in(store, part, tree, residues, atoms, out));
+        return Ok(find_in(store, part, tree, residues, atoms, out));
     }
-    Found::Refused(Refusal::ShortOutput)
+    Err(Refusal::ShortOutput)
 }
 
 // The tree's refusals come after those of the store and the start.
-fn find_part(store: &[u64], part: Part, tree: &[u64], total: u64, out: &mut [u64]) -> Found
+fn find_part(
+    store: &[u64],
+    part: Part,
+    tree: &[u64],
+    total: u64,
+    out: &mut [u64],
+) -> Result<u64, Refusal>
     requires { Asked store.now part total }
-    ensures { (found_numbers result, out.new) ≡ written out.old (asked_below store.now part tree.now) }
+    ensures { (counted_numbers result, out.new) ≡ written out.old (asked_below store.now part tree.now) }
 {
-    let read = search::check_tree(tree);
-    match read {
-        CheckedTree::Refused(c) => Found::Refused(c),
-        CheckedTree::Good => {
-            let residues = reference_tables::amino_acids();
-            let atoms = reference_tables::backbone_names();
-            find_below(store, part, tree, total, &residues, &atoms, out)
-        }
-    }
+    search::check_tree(tree)?;
+    let residues = reference_tables::amino_acids();
+    let atoms = reference_tables::backbone_names();
+    find_below(store, part, tree, total, &residues, &atoms, out)
 }
 
 // What stands under a start. A position of five indexes is an atom's, and an atom is no start.
-fn part_under(store: &[u64], start: &[u64]) -> Followed
+fn part_under(store: &[u64], start: &[u64]) -> Option<Part>
     requires { Good store.now }
-    ensures { result ≡ followed_of (part_under start.now (held store.now)) }
+    ensures { result ≡ part_under start.now (held store.now) }
 {
     if start.len() <= 4 {
-        return seek::follow(store, start);
+        seek::follow(store, start)
+    } else {
+        None
     }
-    Followed::Missing
 }
 
 // From a start of none to four indexes; with none it is the whole store. Refused in order: 1 and 2 by the store, 5 by the start, 3 and 4 by the
 // tree, 10 by the output.
-pub fn find(store: &[u64], start: &[u64], tree: &[u64], out: &mut [u64]) -> Found
-    ensures { (found_numbers result, out.new)
+pub fn find(store: &[u64], start: &[u64], tree: &[u64], out: &mut [u64]) -> Result<u64, Refusal>
+    ensures { (counted_numbers result, out.new)
         ≡ find_from store.now start.now tree.now out.old }
 {
-    let checked = store::check(store);
-    match checked {
-        Checked::Refused(c) => Found::Refused(c),
-        Checked::Good(total) => {
-            let under = part_under(store, start);
-            match under {
-                Followed::Missing => Found::Refused(Refusal::NoPosition),
-                Followed::To(part) => find_part(store, part, tree, total, out),
-            }
-        }
-    }
+    let total = store::check(store)?;
+    let part = part_under(store, start).ok_or(Refusal::NoPosition)?;
+    find_part(store, part, tree, total, out)
 }

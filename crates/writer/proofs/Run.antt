@@ -1,4 +1,7 @@
 -- The writer's answers are those of its definition. Assumes nothing.
+use Rattle.std.specs.Prelude.{Err, Ok, IsErrAnd}
+use Rattle.machine.specs.declared.Refusal.TheVariants.{TooWide, ShortText}
+use Rattle.laws.specs.Exits.{exit-err}
 use Prim.Native.Nat.{ℕ, ◌+◌, ◌≤◌, ◌<◌}
 use mathlib.Core.Path.{◌≡◌, refl, sym, ap, ◌∙◌}
 use mathlib.Core.Bool.{Bool, true, false, cond}
@@ -6,27 +9,23 @@ use mathlib.Core.List.{List, ◌++◌, map}
 use native.Mathlib.Omega.{arith}
 use lib.ListN.{length, drop}
 use borrow.Author.Tests.{le-leb, lt-leb}
-use Rattle.machine.specs.Answer.{written_numbers}
+use Rattle.machine.specs.Answer.{Result, counted_numbers}
 use Rattle.machine.specs.Store.{read_store}
 use Rattle.machine.specs.Lines.{entry_of, writable, machine_text}
 use Rattle.machine.specs.Write.{store_text, write_run}
 use Rattle.machine.specs.declared.Refusal.{Refusal}
-use Rattle.machine.specs.declared.Written.TheVariants as Written
 use Rattle.moves.specs.Over.{over}
 use Rattle.decimals.specs.Put.{put_at}
 use Rattle.seek.specs.Seek.{held, Good}
 use Rattle.store.specs.Store.{checked_by}
-use Rattle.store.specs.declared.Checked as Checked
 use Rattle.store.proofs.Laws.{refused-store}
 use Rattle.writer.specs.Writer.{measured}
-use Rattle.writer.specs.declared.Measured.{Measured}
-use Rattle.writer.specs.declared.Measured.TheVariants.{Bytes, TooWide}
 
-is_wide : (b : Bool) (n : ℕ) → cond b (Bytes n) TooWide ≡ TooWide → b ≡ false
-is_wide true n h = let z : ◌≡◌ {A = ℕ} 0 1 = cc in absurd (omega arith)
-is_wide false n h = refl
+is_wide : (b : Bool) (n : ℕ) (x : Refusal) → cond b (Ok n) (Err TooWide) ≡ Err x → (b ≡ false) × (x ≡ TooWide)
+is_wide true n x h = let z : ◌≡◌ {A = ℕ} 0 1 = cc in absurd (omega arith)
+is_wide false n x h = (refl, cc)
 
-is-long : (b : Bool) (n k : ℕ) → cond b (Bytes n) TooWide ≡ Bytes k → (b ≡ true) × (k ≡ n)
+is-long : (b : Bool) (n k : ℕ) → cond b (Ok n) (Err TooWide) ≡ Ok k → (b ≡ true) × (k ≡ n)
 is-long true n k h = (refl, cc)
 is-long false n k h = let z : ◌≡◌ {A = ℕ} 0 1 = cc in absurd (omega arith)
 
@@ -35,17 +34,20 @@ unfolding over
 put_front t out = let e : 0 + length t ≡ length t = omega arith in rw e
 
 module _ (w out : List ℕ) where
-  pub no_store : {c : Checked.Checked} {r : Refusal} → c ≡ checked_by (read_store w) → c ≡ Checked.TheVariants.Refused r
-      → (written_numbers (Written.Refused r), out) ≡ write_run w out
-  unfolding write_run store_text
-  no_store h e = rw (refused-store w (sym e ∙ h))
-
-  module _ (g : Good w) {r : Measured} (h : r ≡ measured (map entry_of (held w))) where
-    pub too_wide_lem : r ≡ TooWide → (written_numbers (Written.Refused Refusal.TooWide), out) ≡ write_run w out
+  -- where a `?` ends the call
+  module _ {x : Refusal} (a : Result ℕ) (o : IsErrAnd a (λ y. y ≡ x)) where
+    pub no_store : {c : Result ℕ} → c ≡ checked_by (read_store w) → c ≡ Err x → (counted_numbers a, out) ≡ write_run w out
     unfolding write_run store_text
-    too_wide_lem e = rw (g, is_wide (writable (map entry_of (held w))) _ (sym h ∙ e))
+    no_store h e = rw (exit-err a x o, refused-store w (sym e ∙ h))
 
-    module _ {n : ℕ} (e : r ≡ Bytes n) where
+    pub too_wide_lem : Good w → {r : Result ℕ} → r ≡ measured (map entry_of (held w)) → r ≡ Err x → (counted_numbers a, out) ≡ write_run w out
+    unfolding write_run store_text
+    too_wide_lem g h e =
+        let q = is_wide (writable (map entry_of (held w))) _ x (sym h ∙ e) in
+        rw (exit-err a x o, q.1, g, q.0)
+
+  module _ (g : Good w) {r : Result ℕ} (h : r ≡ measured (map entry_of (held w))) where
+    module _ {n : ℕ} (e : r ≡ Ok n) where
       long : (writable (map entry_of (held w)) ≡ true) × (n ≡ length (machine_text (held w)))
       long = is-long (writable (map entry_of (held w))) _ n (sym h ∙ e)
 
@@ -55,14 +57,14 @@ module _ (w out : List ℕ) where
       pub has_room : n ≤ length out → length (machine_text (held w)) ≤ length out
       has_room l = let q = long.1 in omega arith
 
-      pub too_short : length out < n → (written_numbers (Written.Refused Refusal.ShortText), out) ≡ write_run w out
+      pub too_short : length out < n → (counted_numbers (Err ShortText), out) ≡ write_run w out
       unfolding write_run store_text
       too_short l =
           let q = long.1 in
           let s : length out < length (machine_text (held w)) = omega arith in
           rw (g, all_fit, lt-leb (length (machine_text (held w))) (length out) s)
 
-      pub all-written : {end : ℕ} {o : List ℕ} → n ≤ length out → (end, o) ≡ put_at (machine_text (held w)) 0 out → (written_numbers (Written.Bytes end), o) ≡ write_run w out
+      pub all-written : {end : ℕ} {o : List ℕ} → n ≤ length out → (end, o) ≡ put_at (machine_text (held w)) 0 out → (counted_numbers (Ok end), o) ≡ write_run w out
       unfolding write_run store_text
       all-written l p =
           let q = p ∙ put_front (machine_text (held w)) out in

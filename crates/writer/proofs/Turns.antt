@@ -1,4 +1,6 @@
 -- What each pass keeps, and what it gives where it is left. Assumes nothing.
+use Rattle.std.specs.Prelude.{Ok, Err}
+use Rattle.machine.specs.declared.Refusal.TheVariants.{TooWide}
 use Prim.Native.Nat.{ℕ, ◌+◌, ◌-◌, ◌*◌, ◌≤◌, ◌<◌}
 use mathlib.Core.Path.{◌≡◌, refl, sym, ap, ◌∙◌}
 use mathlib.Core.Bool.{Bool, true, false, ◌&&◌, cond}
@@ -24,7 +26,6 @@ use Rattle.seek.specs.Seek.{held, Good, record_at, records_in}
 use Rattle.seek.proofs.Below.{records_in-cons, records_in-nil}
 use Rattle.seek.proofs.Laws.{whole-within, whole-records}
 use Rattle.columns.specs.declared.Above.{Above}
-use Rattle.writer.specs.declared.Measured.TheVariants.{Bytes, TooWide}
 use Rattle.writer.specs.Writer.{parents, GoodWords, measured}
 
 -- ---- a pass
@@ -129,7 +130,7 @@ measure-start w count a g is =
     }
 
 module _ (w : List ℕ) (count n : ℕ) (a : Above) (lines : ℕ) (i : Measuring w count n a lines) where
-  pub measure-end : count ≤ n → Bytes (81 * lines) ≡ measured (map entry_of (held w))
+  pub measure-end : count ≤ n → Ok (81 * lines) ≡ measured (map entry_of (held w))
   measure-end h =
       let e : lines ≡ 2 * length (held w) + stored (held w) = omega (arith, i.all_lines, ap (sum line_count) (records_in-nil w count n h)) in
       let t : writable (map entry_of (held w)) ≡ true = sym i.fits ∙ rw (rest_end w count n i.pass (parents a) h) (end_fits (ltb 0 n)) in
@@ -142,7 +143,7 @@ module _ (w : List ℕ) (count n : ℕ) (a : Above) (lines : ℕ) (i : Measuring
     split : writable (map entry_of (held w)) ≡ (b && all (all fitting) (rest w count (n + 1) (entered (taken w n) (parents a))))
     split = sym i.fits ∙ rw (rest-next w count n i.pass more (parents a), all_split (all fitting), ended-fits, ← is)
 
-    pub measure-wide : b ≡ false → TooWide ≡ measured (map entry_of (held w))
+    pub measure-wide : b ≡ false → Err TooWide ≡ measured (map entry_of (held w))
     measure-wide f = rw (split, f)
 
     pub measure-next : b ≡ true → {l : ℕ} {a' : Above} → l ≡ line_count (taken w n) → parents a' ≡ entered (taken w n) (parents a) → Measuring w count (n + 1) a' (lines + l)

@@ -2,7 +2,7 @@
 #![tactic(auto)]
 
 ghost use Rattle.std.specs.Prelude.{◌≡◌, true, map, ◌+◌, ◌≤◌, length};
-ghost use Rattle.machine.specs.Answer.{written_numbers};
+ghost use Rattle.machine.specs.Answer.{counted_numbers};
 ghost use Rattle.machine.specs.Lists.{all, concat_map};
 ghost use Rattle.machine.specs.Lines.{fitting, line_of, entry_of, writable, machine_text};
 ghost use Rattle.machine.specs.Write.{write_run};
@@ -12,15 +12,7 @@ ghost use Rattle.seek.specs.Seek.{held, Good};
 ghost use Rattle.writer.specs.Writer.{parents, GoodWords, measured};
 
 use columns::Above;
-use machine::{Record, Refusal, Written};
-use store::Checked;
-
-// How many bytes the text has, where every field fits into its columns.
-#[derive(Clone, Copy)]
-pub enum Measured {
-    Bytes(u64),
-    TooWide,
-}
+use machine::{Record, Refusal};
 
 // Before the first record. No line takes these words: an atom comes after a chain, a residue and a conformer.
 fn start() -> Above {
@@ -87,8 +79,8 @@ fn line_count(words: &[u64]) -> u64
     0
 }
 
-// A chain, a residue or a conformer without an atom is on no line, so that its fields may be of any width.
-pub fn measure(store: &[u64]) -> Measured
+// How many bytes the text has, where every field fits into its columns. A chain, a residue or a conformer without an atom is on no line, so that its fields may be of any width.
+pub fn measure(store: &[u64]) -> Result<u64, Refusal>
     requires { Good store.now }
     ensures { result ≡ measured (map entry_of (held store.now)) }
 {
@@ -104,10 +96,10 @@ pub fn measure(store: &[u64]) -> Measured
             above = enter(above, words);
             n += 1;
         } else {
-            return Measured::TooWide;
+            return Err(Refusal::TooWide);
         }
     }
-    Measured::Bytes(81 * lines)
+    Ok(81 * lines)
 }
 
 // ENDMDL, where a model was begun.
@@ -164,31 +156,22 @@ pub fn write_all(store: &[u64], out: &mut [u8]) -> usize
 }
 
 // A good store. Both refusals are decided before a byte is written.
-fn write_good(store: &[u64], out: &mut [u8]) -> Written
+fn write_good(store: &[u64], out: &mut [u8]) -> Result<u64, Refusal>
     requires { Good store.now }
-    ensures { (written_numbers result, out.new) ≡ write_run store.now out.old }
+    ensures { (counted_numbers result, out.new) ≡ write_run store.now out.old }
 {
-    let measured = measure(store);
-    match measured {
-        Measured::TooWide => Written::Refused(Refusal::TooWide),
-        Measured::Bytes(length) => {
-            if length <= out.len() as u64 {
-                let end = write_all(store, out);
-                Written::Bytes(end as u64)
-            } else {
-                Written::Refused(Refusal::ShortText)
-            }
-        }
+    let length = measure(store)?;
+    if length <= out.len() as u64 {
+        Ok(write_all(store, out) as u64)
+    } else {
+        Err(Refusal::ShortText)
     }
 }
 
 // Refused in order: 1 and 2 by the store, 12 by its fields, 13 by the output.
-pub fn write(store: &[u64], out: &mut [u8]) -> Written
-    ensures { (written_numbers result, out.new) ≡ write_run store.now out.old }
+pub fn write(store: &[u64], out: &mut [u8]) -> Result<u64, Refusal>
+    ensures { (counted_numbers result, out.new) ≡ write_run store.now out.old }
 {
-    let checked = store::check(store);
-    match checked {
-        Checked::Refused(refusal) => Written::Refused(refusal),
-        Checked::Good(_atoms) => write_good(store, out),
-    }
+    store::check(store)?;
+    write_good(store, out)
 }

@@ -1,36 +1,21 @@
-use Rattle.std.proofs.Common.{arith, get_or, length, rules, ◌+◌, ◌-◌, ◌<◌}
-use Rattle.calls.proofs.Laws.{calls-begin, calls-end, calls-cut, calls-long, calls-past, calls-bad, calls-next}
+use Rattle.std.proofs.Common.{rules}
+use Rattle.calls.proofs.Laws.{calls-end, calls-cut, calls-long, calls-past, calls-bad, calls-next}
 use Rattle.calls.proofs.count_calls.Goals as goal
 
-pub loop-at-init : goal.loop-at-init
-loop-at-init c = search (rules, calls-begin)
-
-pub returns-then-left-lt2 : goal.returns-then-left-lt2
-returns-then-left-lt2 c =
-    let at = c.loop-at.at in
-    let list = c.args.list.now in
-    let h : length list - at < 2 = omega arith in
-    search (rules, calls-cut)
-
 pub returns-then-n-gt1024 : goal.returns-then-n-gt1024
-returns-then-n-gt1024 c =
-    let at = c.loop-at.at in
-    let list = c.args.list.now in
-    let h : 1024 < get_or list (at + 1) 0 = omega arith in
-    search (rules, calls-long)
+returns-then-n-gt1024 c = search (rules, calls-long)
 
-pub returns-then-list-end : goal.returns-then-list-end
-returns-then-list-end c =
-    let at = c.loop-at.at in
-    let list = c.args.list.now in
-    let h : length list < at + 2 + get_or list (at + 1) 0 = omega arith in
-    search (rules, calls-past)
+pub returns-in_err-words : goal.returns-in_err-words
+returns-in_err-words c = search (rules, calls-past)
 
-pub loop-at-preserved : goal.loop-at-preserved
-loop-at-preserved c = search (rules, calls-next)
+pub returns-then-not-good_call : goal.returns-then-not-good_call
+returns-then-not-good_call c = search (rules, calls-bad)
 
-pub returns-else-good_call : goal.returns-else-good_call
-returns-else-good_call c = search (rules, calls-bad)
+pub loop-rest-preserved : goal.loop-rest-preserved
+loop-rest-preserved c = search (rules, calls-next)
 
-pub returns : goal.returns
-returns c = search (rules, calls-end)
+pub returns-then-is_empty : goal.returns-then-is_empty
+returns-then-is_empty c = search (rules, calls-end)
+
+pub returns-else-is_empty : goal.returns-else-is_empty
+returns-else-is_empty c = search (rules, calls-cut)

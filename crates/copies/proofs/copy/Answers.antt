@@ -1,14 +1,6 @@
--- `copies::copy` meets its contract. Assumes nothing.
-use Rattle.std.proofs.Common.{rules}
-use Rattle.store.proofs.Steps.{good}
-use Rattle.copies.proofs.Laws.{copy-refused, copied}
+-- `copies::copy` meets its contract: what the check refuses is passed on. Assumes nothing.
+use Rattle.copies.proofs.Laws.{copy-refused}
 use Rattle.copies.proofs.copy.Goals as goal
 
-pub copy_good-requires : goal.copy_good-requires
-copy_good-requires c = search (rules, good)
-
-pub returns-in-Refused : goal.returns-in-Refused
-returns-in-Refused c = search (rules, copy-refused)
-
-pub returns-in-Good : goal.returns-in-Good
-returns-in-Good c = search (rules, good, copied)
+pub returns-in_err-check : goal.returns-in_err-check
+returns-in_err-check c = copy-refused c.args.from.now c.args.to.now c.check.ensures c.in_err-check.was _ c.from_residual.ensures.1

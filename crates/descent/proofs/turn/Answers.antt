@@ -1,6 +1,6 @@
 -- `descent::turn` meets its contract: a tree that is true above a record is true there, one that asks for no kind that is known is undecided, and else its value says what is below. Assumes nothing.
 use Rattle.seek.specs.Seek.{five_numbers}
-use Rattle.descent.proofs.Turns.{turn-settled, turn-quiet, turn-false, turn-true, turn-undecided}
+use Rattle.descent.proofs.Turns.{turn-settled, turn-quiet}
 use Rattle.descent.proofs.turn.Goals as goal
 
 pub returns-then-settled-kind : goal.returns-then-settled-kind
@@ -12,18 +12,3 @@ pub returns-then-kind-topmost : goal.returns-then-kind-topmost
 returns-then-kind-topmost c =
     let a = c.args in
     rw c.new-then-kind-topmost.ensures (turn-quiet a.store.now a.tree.now a.low a.residues.now a.atoms.now (five_numbers a.at.now) a.kind a.topmost c.requires.0 c.requires.4 c.if-kind-topmost.true)
-
-pub returns-in-False : goal.returns-in-False
-returns-in-False c =
-    let a = c.args in
-    rw c.new-in-False.ensures (turn-false a.store.now a.tree.now a.low a.residues.now a.atoms.now (five_numbers a.at.now) a.kind _ c.value-v.ensures c.in-False.is)
-
-pub returns-in-True : goal.returns-in-True
-returns-in-True c =
-    let a = c.args in
-    rw c.new-in-True.ensures (turn-true a.store.now a.tree.now a.low a.residues.now a.atoms.now (five_numbers a.at.now) a.kind _ c.value-v.ensures c.in-True.is)
-
-pub returns-in-Undecided : goal.returns-in-Undecided
-returns-in-Undecided c =
-    let a = c.args in
-    rw c.new-in-Undecided.ensures (turn-undecided a.store.now a.tree.now a.low a.residues.now a.atoms.now (five_numbers a.at.now) a.kind _ c.value-v.ensures c.in-Undecided.is)

@@ -7,8 +7,9 @@ use Rattle.edits.proofs.apply.Goals as goal
 pub apply_good-requires : goal.apply_good-requires
 apply_good-requires c = search (rules, good)
 
-pub returns-in-Refused : goal.returns-in-Refused
-returns-in-Refused c = search (rules, applied-refused)
+pub returns-in_err-check : goal.returns-in_err-check
+returns-in_err-check c =
+    applied-refused c.args.store.now c.args.list.now c.args.out.now c.check.ensures c.in_err-check.was _ c.from_residual.ensures.1
 
-pub returns-in-Good : goal.returns-in-Good
-returns-in-Good c = search (rules, good, applied-good)
+pub returns : goal.returns
+returns c = search (rules, good, applied-good)

@@ -10,7 +10,7 @@ stays-requires c = search (rules, gather-within)
 
 pub loop-at-preserved-then-stays : goal.loop-at-preserved-then-stays
 loop-at-preserved-then-stays c =
-    gather-keep _ _ _ _ _ _ c.requires c.loop-at.invariant c.loop-at-test.true _ _ c.stays.ensures c.if-stays.true c.lift.ensures
+    gather-keep _ _ _ _ _ _ c.requires c.loop-at.invariant c.loop-at-test.true _ _ c.stays.ensures c.if-stays.true c.move_record.ensures
 
 pub loop-at-preserved : goal.loop-at-preserved
 loop-at-preserved c = search (rules, gather-skip)

@@ -1,9 +1,10 @@
 -- `helper::trim_end` passes the blanks at the end. Assumes nothing.
-use Rattle.helper.proofs.Laws.{Ended}
+use Rattle.std.proofs.Common.{length, ◌≡◌}
+use Rattle.helper.specs.Text.{trim_end}
 use Rattle.helper.proofs.trim_end.Given as goal
 
-abbrev pub invariant-loop-i : goal.invariant-loop-i
-invariant-loop-i l = Ended l.text l.i
+abbrev pub invariant-loop-rest : goal.invariant-loop-rest
+invariant-loop-rest l = trim_end l.rest ≡ trim_end l.text
 
-abbrev pub decreases-loop-i : goal.decreases-loop-i
-decreases-loop-i l = l.i
+abbrev pub decreases-loop-rest : goal.decreases-loop-rest
+decreases-loop-rest l = length l.rest

@@ -1,15 +1,12 @@
-use Rattle.std.proofs.Common.{rules}
-use Rattle.helper.proofs.Laws.{valid-begin, valid-again, valid-not, valid-done}
+-- `helper::valid_text` asks every byte. Assumes nothing.
+use Rattle.std.proofs.Common.{rules, tests}
+use Rattle.std.proofs.lemmas.Iterator.{YieldsList-from_slice}
+use Rattle.std.proofs.lemmas.Iterator.Search.{all_from_yields_List}
+use Rattle.machine.specs.Text.{plain}
+use Rattle.helper.proofs.Laws.{all-plain}
 use Rattle.helper.proofs.valid_text.Goals as goal
 
-pub loop-i-init : goal.loop-i-init
-loop-i-init c = search (rules, valid-begin)
-
-pub loop-i-preserved : goal.loop-i-preserved
-loop-i-preserved c = search (rules, valid-again)
-
-pub returns-else-check_char : goal.returns-else-check_char
-returns-else-check_char c = search (rules, valid-not)
-
 pub returns : goal.returns
-returns c = search (rules, valid-done)
+returns c =
+    let t = c.args.text.now in
+    all-plain t _ (all_from_yields_List plain _ _ _ c.all.ensures.ran (YieldsList-from_slice t cc) (λ x b q k. search (rules, tests)))

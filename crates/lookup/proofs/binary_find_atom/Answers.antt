@@ -41,9 +41,9 @@ returns-in_default-first_in-3 c =
     _ c.record_count-count.ensures
     (search rules)
     _ c.end_of-end.ensures
-    _ c.first_in.ensures _ _ c.in-At.is
-    _ c.first_in-2.ensures _ _ c.in-At-first_in.is
-    _ c.first_in-3.ensures _ _ c.in-At-first_in-2.is
+    _ c.first_in.ensures _ _ c.in-Some.is
+    _ c.first_in-2.ensures _ _ c.in-Some-first_in.is
+    _ c.first_in-3.ensures _ _ c.in-Some-first_in-2.is
     _ c.first_in-4.ensures (search rules)
 
 pub returns : goal.returns
@@ -54,7 +54,7 @@ returns c =
     _ c.record_count-count.ensures
     (search rules)
     _ c.end_of-end.ensures
-    _ c.first_in.ensures _ _ c.in-At.is
-    _ c.first_in-2.ensures _ _ c.in-At-first_in.is
-    _ c.first_in-3.ensures _ _ c.in-At-first_in-2.is
-    _ c.first_in-4.ensures _ _ c.in-At-first_in-3.is
+    _ c.first_in.ensures _ _ c.in-Some.is
+    _ c.first_in-2.ensures _ _ c.in-Some-first_in.is
+    _ c.first_in-3.ensures _ _ c.in-Some-first_in-2.is
+    _ c.first_in-4.ensures _ _ c.in-Some-first_in-3.is

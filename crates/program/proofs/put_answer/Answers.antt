@@ -6,13 +6,13 @@ use Rattle.program.proofs.put_answer.Goals as goal
 
 pub put_found-requires : goal.put_found-requires
 put_found-requires c =
-    let few = few-found _ _ _ _ c.requires.0 (simp length-replicate (omega arith)) _ c.find-found.ensures _ c.in-Hits.is in
+    let few = few-found _ _ _ _ c.requires.0 (simp length-replicate (omega arith)) _ c.find-found.ensures _ c.in-Ok.is in
     search rules
 
-pub returns-in-Hits : goal.returns-in-Hits
-returns-in-Hits c =
-    hits-answer _ _ _ _ c.requires.0 (simp length-replicate (omega arith)) _ c.find-found.ensures _ c.in-Hits.is _ _ _ c.put_found.ensures
+pub returns-in-Ok : goal.returns-in-Ok
+returns-in-Ok c =
+    hits-answer _ _ _ _ c.requires.0 (simp length-replicate (omega arith)) _ c.find-found.ensures _ c.in-Ok.is _ _ _ c.put_found.ensures
 
-pub returns-in-Refused : goal.returns-in-Refused
-returns-in-Refused c =
-    refused-answer _ _ _ _ c.requires.0 (simp length-replicate (omega arith)) _ c.find-found.ensures _ c.in-Refused.is _ _ _ c.put_refused.ensures
+pub returns-in-Err : goal.returns-in-Err
+returns-in-Err c =
+    refused-answer _ _ _ _ c.requires.0 (simp length-replicate (omega arith)) _ c.find-found.ensures _ c.in-Err.is _ _ _ c.put_refused.ensures

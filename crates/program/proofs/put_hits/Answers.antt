@@ -1,15 +1,15 @@
-use Rattle.std.proofs.Common.{rules}
-use Rattle.program.proofs.Laws.{five-words, hits-start, hits-end, hits-room, hits-turn}
+use Rattle.std.proofs.Common.{arith, rules}
+use Rattle.std.proofs.lemmas.Grind.{common_steps}
+use Rattle.decimals.proofs.Laws.{put-none}
+use Rattle.program.proofs.Bounds.{lines-few}
+use Rattle.program.proofs.Laws.{hits-turn}
 use Rattle.program.proofs.put_hits.Goals as goal
 
-pub loop-i-init : goal.loop-i-init
-loop-i-init c = search (rules, hits-start)
+pub loop-hit-init : goal.loop-hit-init
+loop-hit-init c = put-none 0 _
 
 pub put_hit-at-requires : goal.put_hit-at-requires
-put_hit-at-requires c = search (rules, five-words, hits-room)
+put_hit-at-requires c = grind (arith, common_steps, lines-few)
 
-pub loop-i-preserved : goal.loop-i-preserved
-loop-i-preserved c = search (rules, hits-turn)
-
-pub returns : goal.returns
-returns c = search (rules, hits-end)
+pub loop-hit-preserved : goal.loop-hit-preserved
+loop-hit-preserved c = search (rules, hits-turn)

@@ -1,10 +1,8 @@
 -- `program::put_hits` meets its contract. The loop's invariant: the lines of the hits passed stand in the text. Assumes nothing.
-use Rattle.std.proofs.Common.{◌-◌}
-use Rattle.program.proofs.Laws.{Listing}
+use Rattle.std.proofs.Common.{◌≡◌, ℕ, List}
+use Rattle.decimals.specs.Put.{put_at}
+use Rattle.program.specs.Text.{lines}
 use Rattle.program.proofs.put_hits.Given as goal
 
-abbrev pub invariant-loop-i : goal.invariant-loop-i
-invariant-loop-i l = Listing l.n l.hits l.initial.text l.i l.at l.text
-
-abbrev pub decreases-loop-i : goal.decreases-loop-i
-decreases-loop-i l = l.n - l.i
+abbrev pub invariant-loop-hit : goal.invariant-loop-hit
+invariant-loop-hit l = ◌≡◌ {A = ℕ × List ℕ} (l.at, l.text) (put_at (lines l.hit-index l.fn.hits) 0 l.initial.text)

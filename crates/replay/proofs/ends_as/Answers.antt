@@ -1,7 +1,10 @@
 -- `replay::ends_as` meets its contract. Assumes nothing.
 use Rattle.std.proofs.Common.{rules}
-use Rattle.replay.proofs.Laws.{ends}
+use Rattle.replay.proofs.Laws.{ends-other, ends-same}
 use Rattle.replay.proofs.ends_as.Goals as goal
 
-pub returns : goal.returns
-returns c = search (rules, ends)
+pub returns-then-answered : goal.returns-then-answered
+returns-then-answered c = search (rules, ends-same)
+
+pub returns-else-answered : goal.returns-else-answered
+returns-else-answered c = search (rules, ends-other)

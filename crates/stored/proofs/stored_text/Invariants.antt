@@ -1,9 +1,7 @@
--- `stored::stored_text` is `stored_text` of eight bytes: one byte to a turn. The measure is the worth of a byte. Assumes nothing.
-use Rattle.stored.proofs.Words.{TextLeft}
+-- `stored::stored_text` is `stored_text` of eight bytes: one byte to a turn. Assumes nothing.
+use Rattle.std.proofs.Common.{◌≡◌}
+use Rattle.stored.specs.Word.{stored_text}
 use Rattle.stored.proofs.stored_text.Given as goal
 
-abbrev pub invariant-loop-unit : goal.invariant-loop-unit
-invariant-loop-unit l = TextLeft l.low l.up l.w l.rest l.unit
-
-abbrev pub decreases-loop-unit : goal.decreases-loop-unit
-decreases-loop-unit l = l.unit
+abbrev pub invariant-loop-n : goal.invariant-loop-n
+invariant-loop-n l = stored_text l.low l.up 8 l.w ≡ stored_text l.low l.up l.n l.rest

@@ -1,6 +1,6 @@
 -- `terms::matches_float` meets its contract: the four terms by their case; the others ask for no float. Assumes nothing.
+use Rattle.std.specs.Prelude.{Some}
 use Rattle.std.proofs.Common.{refl, ◌++◌}
-use mathlib.Core.Option.{some}
 use Rattle.machine.specs.Record.{read_out}
 use Rattle.machine.specs.Query.{window, term_value}
 use Rattle.terms.specs.Levels.{at_atom}
@@ -26,4 +26,4 @@ returns-in-OccupancyRange c a e q names = simp (c.decided-in-OccupancyRange.ensu
 
 pub returns-in_default : goal.returns-in_default
 unfolding window
-returns-in_default c a e q names = no-float names (at_atom (some a)) (cases 0 15 ++ cases 19 3) c.args.t refl (opened c.in_default.in_default-own.keys5) q
+returns-in_default c a e q names = no-float names (at_atom (Some a)) (cases 0 15 ++ cases 19 3) c.args.t refl (opened c.in_default.in_default-own.keys5) q

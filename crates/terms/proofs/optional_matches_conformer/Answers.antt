@@ -1,6 +1,6 @@
 -- `terms::optional_matches_conformer` meets its contract: each term of the level by its case, and the others are undecided. Assumes nothing.
+use Rattle.std.specs.Prelude.{Some}
 use Rattle.std.proofs.Common.{refl, ◌++◌}
-use mathlib.Core.Option.{some}
 use Rattle.machine.specs.Query.{window, term_value}
 use Rattle.terms.specs.Levels.{at_conformer}
 use Rattle.terms.proofs.Terms.{cases, elsewhere}
@@ -31,4 +31,4 @@ pub returns-in_default : goal.returns-in_default
 unfolding window
 returns-in_default c others =
     let a = c.args in
-    elsewhere (record { residues = a.residues.now; atoms = others }) 4 (at_conformer (some (record { name = a.name; location = a.location }))) (cases 0 8 ++ (cases 11 8 ++ cases 21 1)) a.t refl (opened c.in_default.in_default-own.keys6)
+    elsewhere (record { residues = a.residues.now; atoms = others }) 4 (at_conformer (Some (record { name = a.name; location = a.location }))) (cases 0 8 ++ (cases 11 8 ++ cases 21 1)) a.t refl (opened c.in_default.in_default-own.keys6)

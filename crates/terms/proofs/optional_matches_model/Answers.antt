@@ -1,6 +1,6 @@
 -- `terms::optional_matches_model` meets its contract: each term of the level by its case, and the others are undecided. Assumes nothing.
+use Rattle.std.specs.Prelude.{Some}
 use Rattle.std.proofs.Common.{refl}
-use mathlib.Core.Option.{some}
 use Rattle.machine.specs.Query.{window, term_value}
 use Rattle.terms.specs.Levels.{at_model}
 use Rattle.terms.proofs.Terms.{cases, elsewhere}
@@ -17,4 +17,4 @@ returns-in-ModelSerialNumberRange c names = simp (c.decided-in-ModelSerialNumber
 
 pub returns-in_default : goal.returns-in_default
 unfolding window
-returns-in_default c names = elsewhere names 1 (at_model (some (record { serial = c.args.serial }))) (cases 2 20) c.args.t refl (opened c.in_default.in_default-own.keys3)
+returns-in_default c names = elsewhere names 1 (at_model (Some (record { serial = c.args.serial }))) (cases 2 20) c.args.t refl (opened c.in_default.in_default-own.keys3)

@@ -1,6 +1,6 @@
 -- `terms::optional_matches_residue` meets its contract: each term of the level by its case, and the others are undecided. Assumes nothing.
+use Rattle.std.specs.Prelude.{Some}
 use Rattle.std.proofs.Common.{refl, rules, to_z-of_z, w64, ◌++◌, ◌∙◌}
-use mathlib.Core.Option.{some}
 use Rattle.machine.specs.Query.{window, term_value}
 use Rattle.terms.specs.Levels.{at_residue}
 use Rattle.terms.proofs.Terms.{cases, elsewhere}
@@ -30,4 +30,4 @@ pub returns-in_default : goal.returns-in_default
 unfolding window
 returns-in_default c names =
     let a = c.args in
-    elsewhere names 3 (at_residue (some (record { serial = a.serial; code = a.code }))) (cases 0 4 ++ cases 8 14) a.t refl (opened c.in_default.in_default-own.keys5)
+    elsewhere names 3 (at_residue (Some (record { serial = a.serial; code = a.code }))) (cases 0 4 ++ cases 8 14) a.t refl (opened c.in_default.in_default-own.keys5)

@@ -6,6 +6,6 @@ pub returns-then-n : goal.returns-then-n
 unfolding element_of
 returns-then-n c = rw c.if-n.true
 
-pub returns : goal.returns
+pub returns-else-n : goal.returns-else-n
 unfolding element_of
-returns c = rw c.if-n.false
+returns-else-n c = rw c.if-n.false

@@ -7,8 +7,8 @@ use Rattle.structs.proofs.chain.remove_residue_by_id.Goals as goal
 pub remove_residue_by_id-requires : goal.remove_residue_by_id-requires
 remove_residue_by_id-requires c = search (rules, good)
 
-pub returns-in-Refused : goal.returns-in-Refused
-returns-in-Refused c = search (rules, refused-call)
+pub returns-in_err-check : goal.returns-in_err-check
+returns-in_err-check c = refused-call _ c.check.ensures c.in_err-check.was _ c.from_residual.ensures.1 _
 
-pub returns-in-Good : goal.returns-in-Good
-returns-in-Good c = search (rules, residue-by-id)
+pub returns : goal.returns
+returns c = search (rules, residue-by-id)

@@ -7,8 +7,8 @@ use Rattle.structs.proofs.pdb.add_model.Goals as goal
 pub add_model-requires : goal.add_model-requires
 add_model-requires c = search (rules, good)
 
-pub returns-in-Refused : goal.returns-in-Refused
-returns-in-Refused c = search (rules, refused-call)
+pub returns-in_err-check : goal.returns-in_err-check
+returns-in_err-check c = refused-call _ c.check.ensures c.in_err-check.was _ c.from_residual.ensures.1 _
 
-pub returns-in-Good : goal.returns-in-Good
-returns-in-Good c = search (rules, model-added)
+pub returns : goal.returns
+returns c = search (rules, model-added)

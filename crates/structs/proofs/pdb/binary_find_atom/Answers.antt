@@ -7,8 +7,8 @@ use Rattle.structs.proofs.pdb.binary_find_atom.Goals as goal
 pub binary_find_atom-requires : goal.binary_find_atom-requires
 binary_find_atom-requires c = search (rules, good)
 
-pub returns-in-Refused : goal.returns-in-Refused
-returns-in-Refused c = search (rules, refused-looked-up)
+pub returns-in_err-check : goal.returns-in_err-check
+returns-in_err-check c = refused-looked-up _ c.check.ensures c.in_err-check.was _ c.from_residual.ensures.1 _ _
 
-pub returns-in-Good : goal.returns-in-Good
-returns-in-Good c = search (rules, good, looked-up)
+pub returns : goal.returns
+returns c = search (rules, good, looked-up)

@@ -7,5 +7,5 @@ use Rattle.structs.proofs.positions.join_at.Goals as goal
 pub join_at-requires : goal.join_at-requires
 join_at-requires c = search (rules, good)
 
-pub returns-in-Refused : goal.returns-in-Refused
-returns-in-Refused c = search (rules, refused-by)
+pub returns-in_err-check : goal.returns-in_err-check
+returns-in_err-check c = refused-by _ c.check.ensures c.in_err-check.was _ c.from_residual.ensures.1 _

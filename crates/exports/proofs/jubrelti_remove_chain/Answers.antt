@@ -1,7 +1,0 @@
--- `exports::jubrelti_remove_chain` meets its contract. Assumes nothing.
-use Rattle.std.proofs.Common.{rules}
-use Rattle.exports.proofs.Laws.{as_fields}
-use Rattle.exports.proofs.jubrelti_remove_chain.Goals as goal
-
-pub returns : goal.returns
-returns c = search (rules, as_fields)

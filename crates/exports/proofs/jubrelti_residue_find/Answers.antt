@@ -1,7 +1,0 @@
--- `exports::jubrelti_residue_find` meets its contract. Assumes nothing.
-use Rattle.std.proofs.Common.{rules}
-use Rattle.exports.proofs.Laws.{as_fields}
-use Rattle.exports.proofs.jubrelti_residue_find.Goals as goal
-
-pub returns : goal.returns
-returns c = search (rules, as_fields)
