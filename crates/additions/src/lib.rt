@@ -151,10 +151,11 @@ pub fn add_model(store: &mut [u64], serial: u64) -> Result<Edited, Refusal>
     }
     let record = [Record::MODEL, serial, 0, 0, 0, 0, 0, 0, 0, 0, 0, 0];
     put_records(store, count, count, &record);
-    Ok(Edited {
+    let edited = Edited {
         found: 1,
         removed: 0,
-    })
+    };
+    Ok(edited)
 }
 
 // An answer, and where the next addition may go on.

@@ -1,12 +1,12 @@
 -- Laws of texts, one for each place of the code. Assumes nothing.
-use Prim.Native.Nat.{ℕ, zero, suc, ◌+◌, ◌-◌, ◌*◌, ◌/◌, ◌^◌, ◌≤◌, ◌<◌}
+use Prim.Native.Nat.{ℕ, zero, suc, ◌+◌, ◌-◌, ◌*◌, ◌/◌, ◌^◌, ◌≤◌, ◌<◌, min}
 use mathlib.Core.Path.{◌≡◌, refl, sym, ap, ◌∙◌}
 use mathlib.Core.Bool.{Bool, true, false, cond, not, ◌&&◌}
 use mathlib.Core.List.{List, [], ◌∷◌, ◌++◌, reverse, map, reverse-append, reverse-reverse}
 use native.Mathlib.Nat.{pow-suc, mul-le-mul_right}
 use native.Mathlib.Numerals.{add-one}
 use native.Mathlib.Omega.{arith}
-use lib.ListN.{length, take, drop, get_or, drop_of_length-le, get_or-map, length-map}
+use lib.ListN.{length, take, drop, get_or, length-reverse_aux, get_or-map, length-map}
 use lib.Seq.{take-suc, take-length}
 use lib.Dec.{eqb}
 use borrow.Author.Tests.{ne_eqb}
@@ -71,6 +71,26 @@ pub trim-is : (t u v : List ℕ) → u ≡ trim_start t → v ≡ trim_end u →
 unfolding trim trim_end
 trim-is t u v p q = q ∙ rw p
 
+-- trimming makes no text longer
+after-start : (t : List ℕ) → length (trim_start t) ≤ length t
+unfolding trim_start
+after-start [] = omega arith
+after-start (b ∷ t) = go (blank b) (after-start t)
+  where
+    go : (x : Bool) → length (trim_start t) ≤ length t → length (cond x (trim_start t) (b ∷ t)) ≤ length (b ∷ t)
+    go true h = omega arith
+    go false h = omega arith
+
+pub trim-short : (t u : List ℕ) → u ≡ trim t → length t ≤ 4 → length u ≤ 4
+unfolding trim
+trim-short t u e h =
+    let p = after-start t in
+    let q = after-start (reverse (trim_start t)) in
+    let r = length-reverse_aux (trim_start t) [] in
+    let s = length-reverse_aux (trim_start (reverse (trim_start t))) [] in
+    let z : length u ≡ length (reverse (trim_start (reverse (trim_start t)))) = ap length e in
+    omega arith
+
 -- ---- checks and packing
 
 -- `valid_text` asks the same of each byte
@@ -92,6 +112,26 @@ packed-at zero n (b ∷ bs) = refl
 packed-at (suc i) n [] = omega arith
 packed-at (suc i) n (b ∷ bs) = packed-at i n bs
 
+-- the word of a text is the sum of its first eight bytes, each by its place
+eight-digits : (t : List ℕ) → pack t ≡ get_or t 0 0 * 0x100_0000_0000_0000 + get_or t 1 0 * 0x1_0000_0000_0000 + get_or t 2 0 * 0x100_0000_0000
+    + get_or t 3 0 * 0x1_0000_0000 + get_or t 4 0 * 0x100_0000 + get_or t 5 0 * 0x1_0000 + get_or t 6 0 * 0x100 + get_or t 7 0
+eight-digits t =
+    let e₀ = packed-at 0 7 t in
+    let e₁ = packed-at 1 6 t in
+    let e₂ = packed-at 2 5 t in
+    let e₃ = packed-at 3 4 t in
+    let e₄ = packed-at 4 3 t in
+    let e₅ = packed-at 5 2 t in
+    let e₆ = packed-at 6 1 t in
+    let e₇ = packed-at 7 0 t in
+    let e₈ = packed_none (drop 8 t) in
+    omega arith
+
+pub pack-eight : (t : List ℕ) (d₀ d₁ d₂ d₃ d₄ d₅ d₆ d₇ : ℕ)
+    → d₀ ≡ get_or t 0 0 → d₁ ≡ get_or t 1 0 → d₂ ≡ get_or t 2 0 → d₃ ≡ get_or t 3 0 → d₄ ≡ get_or t 4 0 → d₅ ≡ get_or t 5 0 → d₆ ≡ get_or t 6 0 → d₇ ≡ get_or t 7 0
+    → d₀ * 0x100_0000_0000_0000 + d₁ * 0x1_0000_0000_0000 + d₂ * 0x100_0000_0000 + d₃ * 0x1_0000_0000 + d₄ * 0x100_0000 + d₅ * 0x1_0000 + d₆ * 0x100 + d₇ ≡ pack t
+pack-eight t d₀ d₁ d₂ d₃ d₄ d₅ d₆ d₇ h₀ h₁ h₂ h₃ h₄ h₅ h₆ h₇ = rw (h₀, h₁, h₂, h₃, h₄, h₅, h₆, h₇) (sym (eight-digits t))
+
 -- what the first of n bytes is worth
 abbrev pub worth : ℕ → ℕ
 worth zero = 0
@@ -104,6 +144,15 @@ worth-less (suc (suc n)) =
     let m : suc (suc n) - 1 ≡ suc n = omega arith in
     let e : 256 ^ suc n ≡ 256 ^ n * 256 = pow-suc 256 n in
     rw m (omega arith)
+
+-- past the text's end, and past n bytes, nothing is left to pack
+none_left : (n i : ℕ) (t : List ℕ) → min (length t) n ≤ i → packed (n - i) (drop i t) ≡ 0
+unfolding packed
+none_left zero i t h = let e : zero - i ≡ 0 = omega arith in rw e (packed_none (drop i t))
+none_left (suc n) zero [] h = refl
+none_left (suc n) (suc i) [] h = refl
+none_left (suc n) zero (b ∷ bs) h = absurd (omega arith)
+none_left (suc n) (suc i) (b ∷ bs) h = let e : suc n - suc i ≡ n - i = omega arith in rw e (none_left n i bs (omega arith))
 
 packed-more : (i n : ℕ) (t : List ℕ) → packed n (drop i t) ≡ get_or t i 0 * worth n + packed (n - 1) (drop (i + 1) t)
 packed-more i zero t = rw (packed_none (drop i t), packed_none (drop (i + 1) t)) (omega arith)
@@ -131,10 +180,9 @@ module _ {up : Bool} {t : List ℕ} {i word unit : ℕ} (p : Packing up t i word
         room = omega (arith, p.room);
       }
 
-  pub packing-end : length t ≤ i → word ≡ pack s
-  unfolding packed
+  pub packing-end : min (length t) 8 ≤ i → word ≡ pack s
   packing-end h =
-      let z : packed (8 - i) (drop i s) ≡ 0 = rw (drop_of_length-le s {i = i} (rw (length-upper_if up t) h)) in
+      let z : packed (8 - i) (drop i s) ≡ 0 = none_left 8 i s (rw (length-upper_if up t) h) in
       omega (arith, p.so_far)
 
 -- ---- made ready for the store

@@ -74,14 +74,14 @@ fn upper_if(b: u8, up: bool) -> u8
     if up { b.to_ascii_uppercase() } else { b }
 }
 
-// The first eight bytes as a word, with a..z raised if `up`. After the eighth a byte is worth nothing.
+// The first eight bytes as a word, with a..z raised if `up`. No later byte is read, however long the text is.
 pub fn pack_text(text: &[u8], up: bool) -> u64
     ensures { result ≡ pack (upper_if up text.now) }
 {
     let mut word = 0;
     let mut unit: u64 = 0x100_0000_0000_0000;
-    for b in text {
-        word += u64::from(upper_if(*b, up)) * unit;
+    for i in 0..text.len().min(8) {
+        word += u64::from(upper_if(text[i], up)) * unit;
         unit /= 256;
     }
     word

@@ -1,8 +1,11 @@
 // The hits of find on a small store, read out by `Hit`.
 #![tactic(auto)]
 
-use hierarchy::Hit;
-use machine::{AtomRec, FindAnswer, NewAtom};
+ghost use Rattle.std.specs.Prelude.{◌≡◌};
+ghost use Rattle.hierarchy.specs.Hit.{model_of, chain_of, residue_of, conformer_of, atom_of};
+
+use hierarchy::{ChainRec, ConformerRec, Hit, ModelRec, ResidueRec};
+use machine::{AtomRec, FindAnswer, NewAtom, RecordNumbers};
 use std::{fmt, io};
 use structs::{model, pdb};
 
@@ -50,29 +53,52 @@ impl fmt::Display for ShownAtom {
 
 // The records of a hit, read out: where its atom stands, and the atom.
 #[derive(Clone, Copy)]
-struct Shown<'a>(Hit<'a>);
+struct Shown {
+    model: ModelRec,
+    chain: ChainRec,
+    residue: ResidueRec,
+    conformer: ConformerRec,
+    atom: AtomRec,
+}
 
-impl fmt::Display for Shown<'_> {
+impl fmt::Display for Shown {
     fn fmt<W: fmt::Write>(&self, f: &mut fmt::Formatter<W>) -> fmt::Result {
-        let hit = self.0;
-        let model = hit.model().serial;
-        let chain = Text(hit.chain().id);
+        let model = self.model.serial;
+        let chain = Text(self.chain.id);
         write!(f, "model {model}, chain {chain}")?;
-        let residue = hit.residue();
-        let code = Text(residue.code);
-        write!(f, ", residue {} code {code}", residue.serial)?;
-        let conformer = hit.conformer();
-        let name = Text(conformer.name);
-        let location = Text(conformer.location);
+        let code = Text(self.residue.code);
+        write!(f, ", residue {} code {code}", self.residue.serial)?;
+        let name = Text(self.conformer.name);
+        let location = Text(self.conformer.location);
         writeln!(f, ", conformer {name} location {location}")?;
-        f.write(ShownAtom(hit.atom()))
+        f.write(ShownAtom(self.atom))
+    }
+}
+
+// Which record stands for which number.
+fn read_out(store: &[u64], at: RecordNumbers) -> Shown
+    ensures { result ≡ record {
+      model = model_of store.now at.model;
+      chain = chain_of store.now at.chain;
+      residue = residue_of store.now at.residue;
+      conformer = conformer_of store.now at.conformer;
+      atom = atom_of store.now at.atom;
+    } }
+{
+    let hit = Hit::new(store, at);
+    Shown {
+        model: hit.model(),
+        chain: hit.chain(),
+        residue: hit.residue(),
+        conformer: hit.conformer(),
+        atom: hit.atom(),
     }
 }
 
 // The i-th hit of an output.
 fn print_nth(rt: &impl Print, store: &[u64], out: &[u64], i: u64) -> io::Result<()> {
     match hierarchy::nth(store, out, i) {
-        Some(at) => rt.println(Shown(Hit::new(store, at))),
+        Some(at) => rt.println(read_out(store, at)),
         None => rt.println("no hit"),
     }
 }

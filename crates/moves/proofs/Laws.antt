@@ -5,8 +5,8 @@ use mathlib.Core.List.{List, [], ◌∷◌, ◌++◌, append_assoc}
 use native.Mathlib.Nat.{add-zero, add-suc, suc-add, add_assoc}
 use native.Mathlib.Numerals.{add-one}
 use native.Mathlib.Omega.{arith}
-use lib.ListN.{length, take, drop, set, replicate, length-append, length-take, length-drop, take-append-drop}
-use lib.Seq.{drop-cons, take-suc, set_at, append_snoc, length-take-le, take_at, drop_at, drop-drop, take-append-le, drop-append-le, take-take}
+use lib.ListN.{length, take, drop, get_or, set, replicate, length-append, length-take, length-drop, take-append-drop, get_or-append}
+use lib.Seq.{drop-cons, take-suc, set_at, append_snoc, get_or-drop, get_or-append-add, get_or-take, length-take-le, take_at, drop_at, drop-drop, take-append-le, drop-append-le, take-take}
 use Rattle.std.specs.List.{between}
 use Rattle.std.proofs.lemmas.List.Edits.{length-between, split_between}
 use Rattle.moves.specs.Over.{over, taken_out, gapped, rotated}
@@ -18,7 +18,7 @@ module _ {A : Type 0} where
   pub words : (from n : ℕ) (s : List A) → from + n ≤ length s → length (take n (drop from s)) ≡ n
   words from n s h = simp (length-take, length-drop) (omega arith)
 
-  between-append : (p q : List A) (from to : ℕ) → from ≤ to → to ≤ length p → between from to (p ++ q) ≡ between from to p
+  pub between-append : (p q : List A) (from to : ℕ) → from ≤ to → to ≤ length p → between from to (p ++ q) ≡ between from to p
   between-append p q from to l h =
       rw (drop-append-le from p q (omega arith)) (take-append-le (to - from) (drop from p) q (rw length-drop (omega arith)))
 
@@ -36,7 +36,7 @@ module _ {A : Type 0} where
 
 module _ {A : Type 0} where
   -- what was written, with what stands before it, is that long
-  over-head : (at : ℕ) (b s : List A) → at ≤ length s → length (take at s ++ b) ≡ at + length b
+  pub over-head : (at : ℕ) (b s : List A) → at ≤ length s → length (take at s ++ b) ≡ at + length b
   over-head at b s h = simp (length-append, length-take) (omega arith)
 
   pub over-length : (at : ℕ) (b s : List A) → at + length b ≤ length s → length (over at b s) ≡ length s
@@ -72,7 +72,7 @@ module _ {A : Type 0} where
       ∙ sym (between-append (take at s) (drop at s) from to l f)
       ∙ ap (between from to) (take-append-drop at s)
 
-  -- one write after another, and before another
+  -- one write after another, before another, and over another
   pub over-over : (at : ℕ) (b b' s : List A) → at ≤ length s → over (at + length b) b' (over at b s) ≡ over at (b ++ b') s
   unfolding over
   over-over at b b' s h =
@@ -102,12 +102,40 @@ module _ {A : Type 0} where
         append_assoc b,
       )
 
+  -- `over` reads what stands around alone
+  same-around : (at : ℕ) (b s s' : List A) → take at s ≡ take at s' → drop (at + length b) s ≡ drop (at + length b) s' → over at b s ≡ over at b s'
+  unfolding over
+  same-around at b s s' t d = rw (t, d)
+
+  pub over-same : (at : ℕ) (b b' s : List A) → at ≤ length s → length b ≤ length b' → over at b' (over at b s) ≡ over at b' s
+  over-same at b b' s h e =
+      let t : take at (over at b s) ≡ take at s = take-over at b s at h (omega arith) in
+      let d : drop (at + length b') (over at b s) ≡ drop (at + length b') s = drop-over at b s (at + length b') h (omega arith) in
+      same-around at b' (over at b s) s t d
+
+-- a word below, inside and above what was written
+pub get_or-below : (at : ℕ) (b s : List ℕ) (j : ℕ) → at ≤ length s → j < at → get_or (over at b s) j 0 ≡ get_or s j 0
+unfolding over
+get_or-below at b s j h k = get_or-append (take at s) _ 0 j (rw length-take-le k) ∙ get_or-take at s j 0 k
+
+get_past : (p q : List ℕ) (n j : ℕ) → length p ≡ n → get_or (p ++ q) (n + j) 0 ≡ get_or q j 0
+get_past p q n j e = rw (← e) (get_or-append-add p q j 0)
+
+pub get_or-inside : (at : ℕ) (b s : List ℕ) (j : ℕ) → at ≤ length s → j < length b → get_or (over at b s) (at + j) 0 ≡ get_or b j 0
+unfolding over
+get_or-inside at b s j h k = get_past (take at s) _ at j (length-take-le at s h) ∙ get_or-append b _ 0 j k
+
+pub get_or-above : (at : ℕ) (b s : List ℕ) (j : ℕ) → at ≤ length s → at + length b ≤ j → get_or (over at b s) j 0 ≡ get_or s j 0
+get_or-above at b s j h k =
+    let e : j ≡ j + 0 = omega arith in
+    rw e (sym (get_or-drop j (over at b s) 0 0) ∙ rw (drop-over at b s j h k) (get_or-drop j s 0 0))
+
 -- a store after what was written, whose length is n
-pub over-snoc : (at : ℕ) (b s : List ℕ) (v n : ℕ) → length b ≡ n → at + n < length s → set (over at b s) (at + n) v ≡ over at (b ++ (v ∷ [])) s
+pub over-snoc : {A : Type 0} (at : ℕ) (b s : List A) (v : A) (n : ℕ) → length b ≡ n → at + n < length s → set (over at b s) (at + n) v ≡ over at (b ++ (v ∷ [])) s
 unfolding over
 over-snoc at b s v n e h =
     let q : length (take at s ++ b) ≡ at + n = over-head at b s (omega arith) ∙ ap (λ (x : ℕ). at + x) e in
-    rw (e, drop-cons s (at + n) 0, ← append_assoc (take at s) b, length-append, e, add-one, add-suc, append_snoc)
+    rw (e, drop-cons s (at + n) v, ← append_assoc (take at s) b, length-append, e, add-one, add-suc, append_snoc)
     (set_at (take at s ++ b) _ _ v (at + n) q ∙ append_assoc (take at s) b _)
 
 -- a store before what was written

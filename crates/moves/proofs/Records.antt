@@ -20,7 +20,7 @@ twelve-take x rs t = All-left _ (take x rs) (drop x rs) (rw take-append-drop t)
 pub twelve-drop : (x : ℕ) (rs : List Words) → Twelve rs → Twelve (drop x rs)
 twelve-drop x rs t = All-right _ (take x rs) (drop x rs) (rw take-append-drop t)
 
-twelve-between : (x y : ℕ) (rs : List Words) → Twelve rs → Twelve (between x y rs)
+pub twelve-between : (x y : ℕ) (rs : List Words) → Twelve rs → Twelve (between x y rs)
 twelve-between x y rs t = twelve-take (y - x) (drop x rs) (twelve-drop x rs t)
 
 pub twelve-over : (x : ℕ) (new rs : List Words) → Twelve new → Twelve rs → Twelve (over x new rs)
@@ -59,6 +59,9 @@ module _ (rs : List Words) (rest : List ℕ) (t : Twelve rs) (x : ℕ) (h : x �
 
   first-words : length (concat (take x rs)) ≡ 12 * x
   first-words = omega (arith, concat-length (take x rs) (twelve-take x rs t), length-take-le x rs h)
+
+  pub take-records : take (12 * x) (concat rs ++ rest) ≡ concat (take x rs)
+  take-records = ap (take (12 * x)) halves ∙ take_at (concat (take x rs)) _ (12 * x) first-words
 
   pub drop-records : drop (12 * x) (concat rs ++ rest) ≡ concat (drop x rs) ++ rest
   drop-records = ap (drop (12 * x)) halves ∙ drop_at (concat (take x rs)) _ (12 * x) first-words

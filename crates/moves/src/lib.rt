@@ -6,12 +6,15 @@ ghost use Rattle.moves.specs.Over.{over, taken_out, gapped, rotated};
 
 use machine::Record;
 
-// The elements of `from` are written over those at `at`.
+// The elements of `from` are written over those at `at`. Not by `copy_from_slice`: it asks the C library for `memmove`, which the archive
+// for C then needs from outside.
 pub fn write_over<T: Copy>(s: &mut [T], at: usize, from: &[T])
     requires { at + length from.now ≤ length s.old }
     ensures { s.new ≡ over at from.now s.old }
 {
-    s[at..at + from.len()].copy_from_slice(from);
+    for (i, x) in from.iter().enumerate() {
+        s[at + i] = *x;
+    }
 }
 
 // The n words from `from` go to `to`, which may be on either side, also where the two places overlap.
@@ -59,10 +62,13 @@ pub fn insert_gap(s: &mut [u64], at: usize, n: usize, end: usize)
     clear(s, at, n);
 }
 
-// The words from a to m and those from m to b exchange places.
+// The words from a to m and those from m to b exchange places: reversed each, and then together. `rotate_left` takes less time, and lays
+// four KiB on the stack, which a caller in C may not have.
 pub fn rotate(s: &mut [u64], a: usize, m: usize, b: usize)
     requires { (a ≤ m) × (m ≤ b) × (b ≤ length s.old) }
     ensures { s.new ≡ rotated a m b s.old }
 {
-    s[a..b].rotate_left(m - a);
+    s[a..m].reverse();
+    s[m..b].reverse();
+    s[a..b].reverse();
 }

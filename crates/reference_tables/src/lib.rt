@@ -5,7 +5,7 @@
 ghost use Rattle.std.specs.Prelude.{◌≡◌};
 ghost use Rattle.machine.specs.Query.{member, tables};
 
-static AMINO_ACIDS: [u64; 31] = [
+const AMINO_ACIDS: [u64; 31] = [
     0x414c_4100_0000_0000, // ALA
     0x4152_4700_0000_0000, // ARG
     0x4153_4800_0000_0000, // ASH
@@ -39,7 +39,7 @@ static AMINO_ACIDS: [u64; 31] = [
     0x5059_4c00_0000_0000, // PYL
 ];
 
-static BACKBONE_NAMES: [u64; 11] = [
+const BACKBONE_NAMES: [u64; 11] = [
     0x4e00_0000_0000_0000, // N
     0x4341_0000_0000_0000, // CA
     0x4300_0000_0000_0000, // C

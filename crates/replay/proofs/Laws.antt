@@ -1,9 +1,11 @@
--- Equality word by word, and how a case ends. Assumes nothing.
-use Prim.Native.Nat.{ℕ}
+-- Equality word by word, how a case ends, and what stands behind one. Assumes nothing.
+use Prim.Native.Nat.{ℕ, ◌+◌, ◌-◌}
 use mathlib.Core.Path.{◌≡◌, refl, sym, ap, ◌∙◌}
 use mathlib.Core.Bool.{Bool, true, false, ◌&&◌}
 use mathlib.Core.List.{List, [], ◌∷◌}
-use lib.ListN.{length, replicate}
+use native.Mathlib.Omega.{arith}
+use lib.ListN.{length, take, drop, replicate, length-drop}
+use lib.Seq.{drop-drop, take_all}
 use lib.Dec.{eqb}
 use Rattle.std.specs.Cmp.Lexicographic.{pointwise}
 use Rattle.machine.specs.Lists.{same}
@@ -32,3 +34,16 @@ module _ (list answers left store out numbers store' out' : List ℕ) (a : Bool)
 
   pub ends-same : a ≡ true → (b : Bool) → b ≡ pointwise eqb store' left → b ≡ as_recorded_lem list answers left
   ends-same q b z = z ∙ same_is store' left ∙ (rw (sym (same_is out' answers) ∙ sym p ∙ q) at ended_as)
+
+-- three parts, cut one after the other from the words behind three, are passed
+pub behind-parts : (words parts later rest behind : List ℕ) (l m n : ℕ)
+    → parts ≡ take (length words - 3) (drop 3 words)
+    → later ≡ drop l parts
+    → rest ≡ drop m later
+    → behind ≡ drop n rest
+    → behind ≡ drop (3 + l + m + n) words
+behind-parts words parts later rest behind l m n p q r s =
+    let e : parts ≡ drop 3 words = p ∙ take_all (length words - 3) (drop 3 words) (omega (arith, length-drop 3 words)) in
+    let f : later ≡ drop (3 + l) words = q ∙ ap (drop l) e ∙ drop-drop l 3 words in
+    let g : rest ≡ drop (3 + l + m) words = r ∙ ap (drop m) f ∙ drop-drop m (3 + l) words in
+    s ∙ ap (drop n) g ∙ drop-drop n (3 + l + m) words

@@ -1,5 +1,5 @@
 -- A recorded list of edits, run again. Assumes nothing.
-use Rattle.std.specs.Prelude.{ℕ, ◌+◌, ◌≤◌, ◌<◌, Bool, ◌&&◌, List, length, replicate}
+use Rattle.std.specs.Prelude.{ℕ, ◌+◌, ◌/◌, ◌≡◌, ◌≤◌, ◌<◌, Bool, ◌&&◌, List, length, get_or, drop, replicate}
 use Rattle.machine.specs.Lists.{same}
 use Rattle.edits.specs.Apply.{Run, apply_run}
 use Rattle.replay.specs.declared.Case.{Case}
@@ -11,6 +11,12 @@ ended run answers left = same run.out answers && same run.store left
 abbrev pub as_recorded_lem : List ℕ → List ℕ → List ℕ → Bool
 as_recorded_lem list answers left = ended (apply_run (replicate (length left) 0) list (replicate (length answers) 0)) answers left
 
--- a case at the start of n words, of which `left` stand behind it: it has some, and its counts are no more than these
-abbrev pub Sized : ℕ → Case → ℕ → Type 0
-Sized n c left = (left < n) × (c.calls + left ≤ n) × (c.accepted + left ≤ n)
+-- a case at the start of the words, of which those of `behind` stand behind it: its first three words say how many words each of its
+-- parts has, a third of those of its answers are its calls, it has some words, and its counts are no more than these
+abbrev pub Sized : List ℕ → Case → List ℕ → Type 0
+Sized words c behind =
+    (behind ≡ drop (3 + get_or words 0 0 + get_or words 1 0 + get_or words 2 0) words)
+    × (c.calls ≡ get_or words 1 0 / 3)
+    × (length behind < length words)
+    × (c.calls + length behind ≤ length words)
+    × (c.accepted + length behind ≤ length words)

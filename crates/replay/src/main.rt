@@ -49,7 +49,7 @@ struct Case {
 // The case that the words begin with, and the words behind it. A case is how many words the list, the answers and the store have, and
 // these words.
 fn replay_case(words: &[u64]) -> Option<(Case, &[u64])>
-    ensures { IfSome result (λ p. Sized (length words.now) p.0 (length p.1.now)) }
+    ensures { IfSome result (λ p. Sized words.now p.0 p.1.now) }
 {
     let [list, answers, left, words @ ..] = words else {
         return None;

@@ -2,5 +2,5 @@
 use Rattle.helper.proofs.Laws.{Packing}
 use Rattle.helper.proofs.pack_text.Given as goal
 
-abbrev pub invariant-loop-b : goal.invariant-loop-b
-invariant-loop-b l = Packing l.up l.text l.b-index l.word l.unit
+abbrev pub invariant-loop-i : goal.invariant-loop-i
+invariant-loop-i l = Packing l.up l.text l.i l.word l.unit

@@ -18,35 +18,56 @@ returns-then-start-from c = search (rules, itself)
 
 pub overflow_sub-to : goal.overflow_sub-to
 overflow_sub-to c =
-    behind-second c.args.store.now c.args.first.now c.args.second.now c.requires.good _ _ _ _ _ _ c.requires.in_bounds.0 c.requires.in_bounds.1 c.requires.in_bounds.2
-    c.locate.ensures c.locate-2.ensures c.in_ok-start.was c.in_ok-from.was c.if-start-from-2.true
+    search (
+      rules,
+      behind-second c.args.store.now c.args.first.now c.args.second.now c.requires.good _ _ _ _ _ _ c.requires.in_bounds.0 c.requires.in_bounds.1 c.requires.in_bounds.2
+          c.locate.ensures c.locate-2.ensures c.in_ok-start.was c.in_ok-from.was,
+    )
 
 pub cut_turn-requires : goal.cut_turn-requires
 cut_turn-requires c =
-    behind-turns c.args.store.now c.args.first.now c.args.second.now c.requires.good _ _ _ _ _ _ c.requires.in_bounds.0 c.requires.in_bounds.1 c.requires.in_bounds.2
-    c.locate.ensures c.locate-2.ensures c.in_ok-start.was c.in_ok-from.was c.if-start-from-2.true
+    search (
+      rules,
+      behind-turns c.args.store.now c.args.first.now c.args.second.now c.requires.good _ _ _ _ _ _ c.requires.in_bounds.0 c.requires.in_bounds.1 c.requires.in_bounds.2
+          c.locate.ensures c.locate-2.ensures c.in_ok-start.was c.in_ok-from.was,
+    )
 
 pub returns-then-start-from-2 : goal.returns-then-start-from-2
 returns-then-start-from-2 c =
-    behind-done c.args.store.now c.args.first.now c.args.second.now c.requires.good _ _ _ _ _ _ c.requires.in_bounds.0 c.requires.in_bounds.1 c.requires.in_bounds.2
-    c.locate.ensures c.locate-2.ensures c.in_ok-start.was c.in_ok-from.was c.if-start-from-2.true _ c.cut_turn.ensures
+    search (
+      rules,
+      behind-done c.args.store.now c.args.first.now c.args.second.now c.requires.good _ _ _ _ _ _ c.requires.in_bounds.0 c.requires.in_bounds.1 c.requires.in_bounds.2
+          c.locate.ensures c.locate-2.ensures c.in_ok-start.was c.in_ok-from.was,
+    )
 
 pub overflow_sub-to-2 : goal.overflow_sub-to-2
 overflow_sub-to-2 c =
-    ahead-second c.args.store.now c.args.first.now c.args.second.now c.requires.good _ _ _ _ _ _ c.requires.in_bounds.0 c.requires.in_bounds.1 c.requires.in_bounds.2
-    c.locate.ensures c.locate-2.ensures c.in_ok-start.was c.in_ok-from.was c.if-start-from.false c.if-start-from-2.false
+    search (
+      rules,
+      ahead-second c.args.store.now c.args.first.now c.args.second.now c.requires.good _ _ _ _ _ _ c.requires.in_bounds.0 c.requires.in_bounds.1 c.requires.in_bounds.2
+          c.locate.ensures c.locate-2.ensures c.in_ok-start.was c.in_ok-from.was,
+    )
 
 pub overflow_sub-end : goal.overflow_sub-end
 overflow_sub-end c =
-    ahead-first c.args.store.now c.args.first.now c.args.second.now c.requires.good _ _ _ _ _ _ c.requires.in_bounds.0 c.requires.in_bounds.1 c.requires.in_bounds.2
-    c.locate.ensures c.locate-2.ensures c.in_ok-start.was c.in_ok-from.was c.if-start-from.false c.if-start-from-2.false
+    search (
+      rules,
+      ahead-first c.args.store.now c.args.first.now c.args.second.now c.requires.good _ _ _ _ _ _ c.requires.in_bounds.0 c.requires.in_bounds.1 c.requires.in_bounds.2
+          c.locate.ensures c.locate-2.ensures c.in_ok-start.was c.in_ok-from.was,
+    )
 
 pub cut_turn-requires-2 : goal.cut_turn-requires-2
 cut_turn-requires-2 c =
-    ahead-turns c.args.store.now c.args.first.now c.args.second.now c.requires.good _ _ _ _ _ _ c.requires.in_bounds.0 c.requires.in_bounds.1 c.requires.in_bounds.2
-    c.locate.ensures c.locate-2.ensures c.in_ok-start.was c.in_ok-from.was c.if-start-from.false c.if-start-from-2.false
+    search (
+      rules,
+      ahead-turns c.args.store.now c.args.first.now c.args.second.now c.requires.good _ _ _ _ _ _ c.requires.in_bounds.0 c.requires.in_bounds.1 c.requires.in_bounds.2
+          c.locate.ensures c.locate-2.ensures c.in_ok-start.was c.in_ok-from.was,
+    )
 
 pub returns : goal.returns
 returns c =
-    ahead-done c.args.store.now c.args.first.now c.args.second.now c.requires.good _ _ _ _ _ _ c.requires.in_bounds.0 c.requires.in_bounds.1 c.requires.in_bounds.2
-    c.locate.ensures c.locate-2.ensures c.in_ok-start.was c.in_ok-from.was c.if-start-from.false c.if-start-from-2.false _ c.cut_turn-2.ensures
+    search (
+      rules,
+      ahead-done c.args.store.now c.args.first.now c.args.second.now c.requires.good _ _ _ _ _ _ c.requires.in_bounds.0 c.requires.in_bounds.1 c.requires.in_bounds.2
+          c.locate.ensures c.locate-2.ensures c.in_ok-start.was c.in_ok-from.was,
+    )
