@@ -11,8 +11,8 @@ ended run answers left = same run.out answers && same run.store left
 abbrev pub as_recorded_lem : List ℕ → List ℕ → List ℕ → Bool
 as_recorded_lem list answers left = ended (apply_run (replicate (length left) 0) list (replicate (length answers) 0)) answers left
 
--- a case at the start of the words, of which those of `behind` stand behind it: its first three words say how many words each of its
--- parts has, a third of those of its answers are its calls, it has some words, and its counts are no more than these
+-- a case at the start of the words, and the words behind it: its first three words say how many words the list, the answers and the
+-- store have; a call has three words of answers; the case has some words, and its counts are no more than these
 abbrev pub Sized : List ℕ → Case → List ℕ → Type 0
 Sized words c behind =
     (behind ≡ drop (3 + get_or words 0 0 + get_or words 1 0 + get_or words 2 0) words)
